@@ -1,0 +1,2 @@
+pub mod NoNumber
+pub mod WholeByWord
