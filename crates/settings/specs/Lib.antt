@@ -1,0 +1,4 @@
+pub mod Limits
+pub mod Defaults
+pub mod Validation
+pub mod Examples
