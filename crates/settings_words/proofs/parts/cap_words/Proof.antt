@@ -1,0 +1,19 @@
+-- The answer goes by the cap as `capWords` does. Assumes nothing.
+use borrow.Author.Needs.{needs}
+use Rattle.settings_words.proofs.parts.cap_words.Statement.{statement}
+use Rattle.settings_words.proofs.parts.cap_words.Tie as tie
+
+enum-told : tie.Need-enum-told
+enum-told c = search needs
+
+enum-known-c : tie.Need-enum-known-c
+enum-known-c c = search needs
+
+returns : tie.Need-returns
+returns c = search needs
+
+returns-2 : tie.Need-returns-2
+returns-2 c = rw (c .before .c .given .1)
+
+pub cap-words-spec : {M : Type 1} → statement M
+cap-words-spec = tie.close (tie.spec enum-told enum-known-c returns returns-2)

@@ -1,0 +1,4 @@
+pub mod Words
+pub mod FloatsFit
+pub mod Picture
+pub mod Examples
