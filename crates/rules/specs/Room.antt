@@ -1,0 +1,95 @@
+-- Making room for an incoming size x and, if one is wanted, a row; "for nothing" is size 0 and no row.
+use Prim.Native.Nat.{ℕ, zero, suc, _+_, _-_}
+use mathlib.Core.Bool.{Bool, not, _&&_, _||_}
+use mathlib.Core.List.{List, [], _∷_, _++_}
+use lib.Dec.{leb, ltb}
+use lib.ListN.{length}
+use Rattle.rules.specs.declared.order.Kind.{Kind}
+use Rattle.rules.specs.declared.request.Mode.{Mode}
+use Rattle.rules.specs.declared.request.Mode.the-variants.{Alone, Lead, Standby}
+use Rattle.rules.specs.Addresses.{strike}
+use Rattle.rules.specs.Cache.{Cache, Work, withRows, held, minimumClean, give}
+use Rattle.rules.specs.Entries.{if_then_else_, cleaned}
+use Rattle.rules.specs.Rows.{amend, remove, hasFree, cleanAt, dirtyAt, sizeAt}
+use Rattle.rules.specs.declared.entry.Row.{Row}
+
+-- ---- the clean share
+
+-- The bytes of the clean entries of a list.
+unfoldable pub cleanBytes : List Row → List ℕ → ℕ
+cleanBytes rows [] = 0
+cleanBytes rows (a ∷ rest) = (if cleanAt rows a then sizeAt rows a else 0) + cleanBytes rows rest
+
+-- Maximum less held and incoming, not below 0.
+abbrev pub unusedBytes : ℕ → Cache → ℕ
+unusedBytes x c = c .maximum - (held c + x)
+
+-- Clean bytes in the recency list plus unused bytes is at least the minimum clean bytes.
+abbrev pub cleanShareMet : ℕ → Cache → Bool
+cleanShareMet x c = leb (minimumClean c) (cleanBytes (c .rows) (c .recency) + unusedBytes x c)
+
+-- ---- the orders
+
+abbrev pub evict : ℕ → Work → Work
+evict a w = record {
+  cache = withRows (remove a (w .cache .rows)) (strike a (w .cache .recency)) (w .cache);
+  orders = give Kind.Evict a (sizeAt (w .cache .rows) a) (w .orders);
+}
+
+-- A write, after which the entry is clean; the recency list is the one handed over.
+abbrev pub write : ℕ → List ℕ → Work → Work
+write a recency w = record {
+  cache = withRows (amend a cleaned (w .cache .rows)) recency (w .cache);
+  orders = give Kind.Write a (sizeAt (w .cache .rows) a) (w .orders);
+}
+
+-- A write that keeps the entry's place.
+abbrev pub writeInPlace : ℕ → Work → Work
+writeInPlace a w = write a (w .cache .recency) w
+
+-- ---- step 1
+
+-- Held plus incoming exceeds the maximum.
+abbrev pub overfull : ℕ → Cache → Bool
+overfull x c = ltb (c .maximum) (held c + x)
+
+-- That, or a row is wanted and none is free.
+abbrev pub lacking : ℕ → Bool → Cache → Bool
+lacking x row c = overfull x c || row && not (hasFree (c .rows))
+
+-- Alone: a dirty tail is written and moved to the head; a clean tail is evicted.
+abbrev pub lookAtTail : List ℕ → Work → Work
+lookAtTail [] w = w
+lookAtTail (a ∷ rest) w = if dirtyAt (w .cache .rows) a then write a (rest ++ a ∷ []) w else evict a w
+
+-- Alone, at most n turns: each entry comes to the tail at most twice, dirty and then clean.
+unfoldable pub evictTail : ℕ → ℕ → Bool → Work → Work
+evictTail zero x row w = w
+evictTail (suc n) x row w = evictTail n x row (if lacking x row (w .cache) then lookAtTail (w .cache .recency) w else w)
+
+-- Lead and standby: while room is lacking, the clean entry nearest the tail is evicted.
+unfoldable pub evictClean : ℕ → Bool → List ℕ → Work → Work
+evictClean x row [] w = w
+evictClean x row (a ∷ rest) w =
+    evictClean x row rest (if lacking x row (w .cache) && cleanAt (w .cache .rows) a then evict a w else w)
+
+-- ---- step 2, and sync
+
+-- From the tail, while the clean share isn't met, each dirty entry is written and keeps its place.
+unfoldable pub writeDirty : ℕ → List ℕ → Work → Work
+writeDirty x [] w = w
+writeDirty x (a ∷ rest) w =
+    writeDirty x rest (if not (cleanShareMet x (w .cache)) && dirtyAt (w .cache .rows) a then writeInPlace a w else w)
+
+-- ---- both steps
+
+unfoldable pub roomIn : Mode → ℕ → Bool → Work → Work
+roomIn Alone x row w =
+    let v = evictTail (length (w .cache .recency) + length (w .cache .recency)) x row w in
+    writeDirty x (v .cache .recency) v
+roomIn Lead x row w = evictClean x row (w .cache .recency) w
+roomIn Standby x row w = evictClean x row (w .cache .recency) w
+
+-- With evictions off: no effect.
+unfoldable pub makeRoom : ℕ → Bool → Work → Work
+makeRoom x row w = if w .cache .settings .evictions then roomIn (w .cache .mode) x row w else w

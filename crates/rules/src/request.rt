@@ -1,0 +1,54 @@
+// The requests, each with its own particulars.
+use settings::Settings;
+
+// Fixed at opening.
+pub enum Mode {
+    Alone,
+    Lead,
+    Standby,
+}
+
+// What an entry is protected for.
+pub enum Access {
+    Reading,
+    Writing,
+}
+
+// Take's list of addresses is lent beside the request.
+pub enum Request {
+    Insert {
+        address: u64,
+        size: u64,
+    },
+    Protect {
+        access: Access,
+        address: u64,
+        size: u64,
+    },
+    // Release, unchanged.
+    Release {
+        address: u64,
+    },
+    // Release, changed, with the size that the entry now has.
+    ReleaseChanged {
+        address: u64,
+        size: u64,
+    },
+    Pin {
+        address: u64,
+    },
+    Unpin {
+        address: u64,
+    },
+    Resize {
+        address: u64,
+        size: u64,
+    },
+    Discard {
+        address: u64,
+    },
+    Flush,
+    Sync,
+    Take,
+    Configure(Settings),
+}
