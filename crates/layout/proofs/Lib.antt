@@ -1,0 +1,12 @@
+pub mod Rising
+pub mod Numbers
+pub mod Seams
+pub mod ReadBack
+pub mod Leaves
+pub mod Emptied
+pub mod Rows
+pub mod Cuts
+pub mod Parts
+pub mod Encoded
+pub mod Held
+pub mod Ordered

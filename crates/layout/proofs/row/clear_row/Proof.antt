@@ -1,0 +1,57 @@
+-- Six zeros are written from the row's start on.
+use borrow.Author.Needs.{needs}
+use Rattle.rules.specs.declared.entry.Row.the-variants.{Free}
+use Rattle.layout.specs.Layout.{width, rowAt}
+use Rattle.layout.specs.Leaves.{putRow}
+use Rattle.layout.specs.Picture.{rowWords}
+use Rattle.layout.proofs.Leaves.{over-end}
+use Rattle.layout.proofs.row.clear_row.Statement.{statement}
+use Rattle.layout.proofs.row.clear_row.Tie as tie
+
+mul-at : tie.Need-mul-at
+mul-at c = search needs
+
+add-at : tie.Need-add-at
+add-at c = search needs
+
+mul-copy-in : tie.Need-mul-copy-in
+mul-copy-in c = search needs
+
+sub-copy-in : tie.Need-sub-copy-in
+sub-copy-in c = search needs
+
+part-copy-in-start : tie.Need-part-copy-in-start
+part-copy-in-start c = search needs
+
+part-copy-in-end : tie.Need-part-copy-in-end
+part-copy-in-end c = search needs
+
+slice-aggregate-copy-in : tie.Need-slice-aggregate-copy-in
+slice-aggregate-copy-in c = search needs
+
+copy-in-requires : tie.Need-copy-in-requires
+copy-in-requires c κs = search needs
+
+same-length : tie.Need-same-length
+same-length c = search needs
+
+returns : tie.Need-returns
+unfolding putRow
+returns c =
+    let s = c .before .before .before .before .before .before .args in
+    over-end (rowAt (s .row)) width (rowWords Free) (s .table .now) _ (c .before .before .copy-in .ensures)
+
+pub clear-row-spec : {M : Type 1} → statement M
+clear-row-spec =
+    tie.close
+    (tie.spec
+    mul-at
+    add-at
+    mul-copy-in
+    sub-copy-in
+    part-copy-in-start
+    part-copy-in-end
+    slice-aggregate-copy-in
+    copy-in-requires
+    same-length
+    returns)

@@ -1,0 +1,5 @@
+pub mod Layout
+pub mod Picture
+pub mod Holds
+pub mod Leaves
+pub mod Places
