@@ -1,0 +1,11 @@
+pub mod Says
+pub mod Marking
+pub mod RunWords
+pub mod Parts
+pub mod RowWords
+pub mod Names
+pub mod Numbered
+pub mod TableWords
+pub mod OwnWords
+pub mod AllowedTests
+pub mod Verdicts

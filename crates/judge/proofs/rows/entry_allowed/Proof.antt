@@ -1,0 +1,29 @@
+-- `entry_allowed` says whether the words fit an entry: each early exit denies one of the bounds, and the last test is the bound left.
+use native.Mathlib.Omega.{arith}
+use Rattle.judge.proofs.Says.{says-no, says-leb}
+use Rattle.judge.proofs.rows.entry_allowed.Tie as tie
+use Rattle.judge.proofs.rows.entry_allowed.Statement.{statement}
+
+returns : tie.Need-returns
+returns c = says-no (λ p. p .address (c .if1 .taken))
+
+returns-2 : tie.Need-returns-2
+returns-2 c = says-no (λ p. omega arith)
+
+returns-3 : tie.Need-returns-3
+returns-3 c = says-no (λ p. omega arith)
+
+returns-4 : tie.Need-returns-4
+returns-4 c = says-no (λ p. omega arith)
+
+returns-5 : tie.Need-returns-5
+returns-5 c = says-no (λ p. omega arith)
+
+returns-6 : tie.Need-returns-6
+returns-6 c =
+    says-leb _ _
+    (λ e. record { address = c .before .before .before .before .if1 .left; size = omega arith; dirty = omega arith; idle = omega arith; pinned = omega arith; hold = e })
+    (λ p. p .hold)
+
+pub entry-allowed-spec : {M : Type 1} → statement M
+entry-allowed-spec = tie.close (tie.spec returns returns-2 returns-3 returns-4 returns-5 returns-6)

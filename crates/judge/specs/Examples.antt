@@ -1,0 +1,94 @@
+-- A small table and its words changed one at a time, judged by computation: one list of cases, and one statement that each holds.
+use Prim.Native.Nat.{ℕ}
+use mathlib.Core.Path.{_≡_, refl}
+use mathlib.Core.Bool.{Bool, true, false, Bool·beq}
+use mathlib.Core.List.{List, [], _∷_}
+use lib.ListN.{set}
+use lib.Ieee.{round, ofBits, toBits, le, lt}
+use Rattle.fraction.specs.Examples.{every}
+use Rattle.settings.specs.Validation.{firstBad}
+use Rattle.settings_words.specs.Words.{settingsWords}
+use Rattle.settings_words.specs.Picture.{settingsOf}
+use Rattle.rules.specs.Addresses.{elem, twice, insertRising}
+use Rattle.rules.specs.Limits.{countStop}
+use Rattle.rules.specs.Rows.{get}
+use Rattle.layout.specs.Layout.{ones, version}
+use Rattle.layout.specs.Picture.{rowNumber, addresses, rowsWords, run, encode, entryOf, rowsOf, runOf, cacheIn}
+use Rattle.judge.specs.Verdict.{_and_, everyEntry, everyAddress, distinct, isAllowed, sameWords, judgeWords}
+
+-- Three rows: an entry that is listed, a free row, and a pinned entry that is held for writing; and a word past the layout's end.
+abbrev table : List ℕ
+table =
+    version ∷ 3 ∷ 1 ∷ 1_000 ∷ 4_096 ∷ 99 ∷ 99 ∷ countStop
+    -- 8: settings, with no rule on
+    ∷ 1 ∷ 0 ∷ 0 ∷ 0 ∷ 16_384 ∷ 1_024 ∷ 100 ∷ 0 ∷ 0 ∷ 0 ∷ 0 ∷ 0 ∷ 0 ∷ 0 ∷ 0 ∷ 0 ∷ 0 ∷ 0 ∷ 0 ∷ 0 ∷ 0
+    -- 29, 35, 41: rows
+    ∷ 300 ∷ 4_096 ∷ 1 ∷ 3 ∷ 0 ∷ 0
+    ∷ 0 ∷ 0 ∷ 0 ∷ 0 ∷ 0 ∷ 0
+    ∷ 200 ∷ 100 ∷ 0 ∷ 10 ∷ 1 ∷ 65_536
+    -- 47: the recency run
+    ∷ 0 ∷ ones ∷ ones
+    -- 50: the address run
+    ∷ 2 ∷ 0 ∷ ones
+    ∷ 77 ∷ []
+
+-- The table with a word put at a place, and whether it is to pass.
+pub data Case : Type 0 where
+  put : ℕ → ℕ → Bool → Case
+
+unfoldable pub holds : Case → Bool
+unfolding judgeWords
+holds (put at w verdict) = Bool·beq (judgeWords (set table at w)) verdict
+
+pub cases : List Case
+cases =
+    -- as it is, and with another word past the layout's end
+    put 0 version true
+    ∷ put 53 5 true
+    -- the header
+    ∷ put 0 0 false
+    ∷ put 1 0 false
+    ∷ put 1 4 false
+    ∷ put 2 3 false
+    ∷ put 3 0 false
+    ∷ put 4 1_023 false
+    ∷ put 4 16_385 false
+    ∷ put 5 100 false
+    ∷ put 6 98 true
+    ∷ put 6 100 false
+    ∷ put 7 1_099_511_627_777 false
+    ∷ put 8 2 false
+    ∷ put 14 99 false
+    -- row 0
+    ∷ put 29 ones false
+    ∷ put 29 200 false
+    ∷ put 29 201 true
+    ∷ put 30 0 false
+    ∷ put 30 134_217_729 false
+    ∷ put 31 2 false
+    ∷ put 32 10 true
+    ∷ put 32 11 false
+    ∷ put 33 1 false
+    ∷ put 34 1 false
+    -- row 1, which is free
+    ∷ put 35 1 false
+    -- row 2
+    ∷ put 46 1 true
+    ∷ put 46 0 true
+    ∷ put 46 65_537 false
+    -- the recency run: no row, a free row, a held row, a row twice, a word after the end
+    ∷ put 47 3 false
+    ∷ put 47 1 false
+    ∷ put 47 2 false
+    ∷ put 47 ones false
+    ∷ put 48 0 false
+    ∷ put 49 0 false
+    -- the address run
+    ∷ put 50 0 false
+    ∷ put 51 ones false
+    ∷ put 52 1 false
+    ∷ []
+
+pub cases-hold : every holds cases ≡ true
+unfolding cases every holds judgeWords isAllowed _and_ everyEntry everyAddress distinct sameWords elem twice insertRising get rowNumber addresses rowsWords run encode entryOf rowsOf runOf cacheIn settingsOf settingsWords firstBad round ofBits toBits le lt
+cases-hold = refl

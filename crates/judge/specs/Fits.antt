@@ -1,0 +1,152 @@
+-- What the words of a table are to be, part by part, for the checks of each part.
+use Prim.Native.Nat.{ℕ, _+_, _-_, _≤_, _<_}
+use mathlib.Core.Path.{_≡_}
+use mathlib.Core.Bool.{Bool, true, false, _&&_}
+use mathlib.Core.List.{List}
+use lib.Dec.{eqb}
+use lib.ListN.{length, getD, take, drop}
+use Rattle.settings_words.specs.Picture.{picture}
+use Rattle.rules.specs.Addresses.{elem, twice}
+use Rattle.rules.specs.Limits.{mostRows, mostSize, mostIdle, mostThreshold, countStop}
+use Rattle.layout.specs.Layout.{ones, version, settingsAt, headerWords, rowAt, recencyAt, addressesAt, layoutWords, flagOf}
+use Rattle.layout.specs.Picture.{run, runOf}
+
+-- r says whether P holds.
+pub record Says (r : Bool) (P : Type 0) : Type 0 where
+  pub sound : r ≡ true → P
+  pub complete : P → r ≡ true
+
+-- ---- the header
+
+-- Version, row count, mode and threshold.
+pub record OpeningFits (v n m t : ℕ) : Type 0 where
+  pub version : v ≡ version
+  pub someRows : 1 ≤ n
+  pub rows : n ≤ mostRows
+  pub mode : m ≤ 2
+  pub someBytes : 1 ≤ t
+  pub threshold : t ≤ mostThreshold
+
+-- Maximum, accesses, hits and byte count, against the settings' largest size, smallest size and epoch length.
+pub record FiguresFit (x n h k l s e : ℕ) : Type 0 where
+  pub least : s ≤ x
+  pub most : x ≤ l
+  pub accesses : n < e
+  pub hits : h ≤ n
+  pub count : k ≤ countStop
+
+-- The settings' words, and the figures against them.
+pub record SettingsFit (ws : List ℕ) (x n h k : ℕ) : Type 0 where
+  pub picture : picture ws ≡ true
+  pub figures : FiguresFit x n h k (getD ws 4 0) (getD ws 5 0) (getD ws 6 0)
+
+-- ---- a row: address, size, dirty, idle, pinned, hold
+
+-- The words of a free row but its size.
+pub record FreeFits (a d i p h : ℕ) : Type 0 where
+  pub address : a ≡ 0
+  pub dirty : d ≡ 0
+  pub idle : i ≡ 0
+  pub pinned : p ≡ 0
+  pub hold : h ≡ 0
+
+pub record EntryFits (a s d i p h : ℕ) : Type 0 where
+  pub address : a ≡ ones → ⊥
+  pub size : s ≤ mostSize
+  pub dirty : d ≤ 1
+  pub idle : i ≤ mostIdle
+  pub pinned : p ≤ 1
+  pub hold : h ≤ 65_536
+
+-- A row of size 0 is free.
+pub record RowFits (a s d i p h : ℕ) : Type 0 where
+  pub free : s ≡ 0 → FreeFits a d i p h
+  pub used : (s ≡ 0 → ⊥) → EntryFits a s d i p h
+
+-- Row r of a table.
+abbrev pub FitsAt : List ℕ → ℕ → Type 0
+FitsAt ws r =
+    RowFits (getD ws (rowAt r) 0) (getD ws (rowAt r + 1) 0) (getD ws (rowAt r + 2) 0) (getD ws (rowAt r + 3) 0) (getD ws (rowAt r + 4) 0)
+    (getD ws (rowAt r + 5) 0)
+
+-- Whether a row is used, and whether it stands in the recency list, by its words.
+abbrev pub usedAt : List ℕ → ℕ → Bool
+usedAt ws r = flagOf (getD ws (rowAt r + 1) 0)
+
+abbrev pub listedWords : ℕ → ℕ → ℕ → Bool
+listedWords s p h = flagOf s && eqb h 0 && eqb p 0
+
+abbrev pub listedAt : List ℕ → ℕ → Bool
+listedAt ws r = listedWords (getD ws (rowAt r + 1) 0) (getD ws (rowAt r + 4) 0) (getD ws (rowAt r + 5) 0)
+
+-- A row that fits, with its marks from the two runs.
+pub record MarkedRow (ws : List ℕ) (listed used : List Bool) (r : ℕ) : Type 0 where
+  pub fits : FitsAt ws r
+  pub inRecency : getD listed r false ≡ listedAt ws r
+  pub inOrder : getD used r false ≡ usedAt ws r
+
+abbrev pub MarkedRows : List ℕ → ℕ → List Bool → List Bool → Type 0
+MarkedRows ws n listed used = (r : ℕ) → r < n → MarkedRow ws listed used r
+
+-- ---- a run
+
+-- k is the place after the last word of a run that is not all ones.
+pub record Ends (ws : List ℕ) (k : ℕ) : Type 0 where
+  pub within : k ≤ length ws
+  pub rest : (i : ℕ) → k ≤ i → i < length ws → getD ws i 0 ≡ ones
+  pub last : 0 < k → getD ws (k - 1) 0 ≡ ones → ⊥
+
+-- The first k words of a run are numbers of different rows, of n.
+pub record Numbers (ws : List ℕ) (k n : ℕ) : Type 0 where
+  pub below : (i : ℕ) → i < k → getD ws i 0 < n
+  pub once : twice (take k ws) ≡ false
+
+-- No row is marked yet.
+pub record Unmarked (seen : List Bool) : Type 0 where
+  pub size : length seen ≡ mostRows
+  pub none : (x : ℕ) → getD seen x false ≡ false
+
+-- r says whether the first k words are numbers, and then the rows that they name are marked.
+pub record Marked (r : Bool) (ws : List ℕ) (k n : ℕ) (seen : List Bool) : Type 0 where
+  pub says : Says r (Numbers ws k n)
+  pub shows : r ≡ true → (x : ℕ) → getD seen x false ≡ elem x (take k ws)
+
+-- The first k words of a run lead to rising addresses.
+abbrev pub Rises : List ℕ → List ℕ → ℕ → Type 0
+Rises ws order k = (i : ℕ) → i + 1 < k → getD ws (rowAt (getD order i 0)) 0 < getD ws (rowAt (getD order (i + 1) 0)) 0
+
+-- ---- the parts together
+
+-- The words of a run before the first that is all ones.
+abbrev pub numbers : List ℕ → List ℕ
+numbers ws = runOf (length ws) ws
+
+-- A run of different row numbers, of n, then all ones.
+pub record RunFits (ws : List ℕ) (n : ℕ) : Type 0 where
+  pub words : ws ≡ run (length ws) (numbers ws)
+  pub below : (i : ℕ) → i < length (numbers ws) → getD (numbers ws) i 0 < n
+  pub once : twice (numbers ws) ≡ false
+
+-- The rows of a table, and its two runs.
+pub record PartsFit (ws recency order : List ℕ) (n : ℕ) : Type 0 where
+  pub recencyRun : RunFits recency n
+  pub orderRun : RunFits order n
+  pub rows : (r : ℕ) → r < n → FitsAt ws r
+  pub inRecency : (r : ℕ) → r < n → elem r (numbers recency) ≡ listedAt ws r
+  pub inOrder : (r : ℕ) → r < n → elem r (numbers order) ≡ usedAt ws r
+  pub rises : Rises ws (numbers order) (length (numbers order))
+
+-- The words of a table from one place to another.
+abbrev pub part : ℕ → ℕ → List ℕ → List ℕ
+part from to ws = take (to - from) (drop from ws)
+
+-- With n rows.
+abbrev pub PartsOf : List ℕ → ℕ → Type 0
+PartsOf ws n = PartsFit ws (part (recencyAt n) (addressesAt n) ws) (part (addressesAt n) (layoutWords n) ws) n
+
+pub record TableFits (ws : List ℕ) : Type 0 where
+  pub whole : headerWords ≤ length ws
+  pub opening : OpeningFits (getD ws 0 0) (getD ws 1 0) (getD ws 2 0) (getD ws 3 0)
+  pub long : layoutWords (getD ws 1 0) ≤ length ws
+  pub settings : SettingsFit (drop settingsAt ws) (getD ws 4 0) (getD ws 5 0) (getD ws 6 0) (getD ws 7 0)
+  pub parts : PartsOf ws (getD ws 1 0)
