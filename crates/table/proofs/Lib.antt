@@ -1,0 +1,10 @@
+pub mod Lengths
+pub mod Between
+pub mod Told
+pub mod Passes
+pub mod Changed
+pub mod Arrived
+pub mod Turned
+pub mod Tuned
+pub mod Aged
+pub mod Turns

@@ -1,0 +1,110 @@
+// The header's words, read and written.
+ghost use mathlib.Core.Path.{_≡_};
+ghost use Prim.Native.Nat.{_≤_};
+ghost use lib.ListN.{length};
+ghost use Rattle.rules.specs.Cache.{withSettings, withMaximum, withCounters, withCount};
+ghost use Rattle.rules.specs.Limits.{countStop};
+ghost use Rattle.layout.specs.Picture.{cacheIn, restIn};
+ghost use Rattle.layout.specs.Holds.{Holds, Good};
+ghost use Rattle.table.specs.Asked.{Settable};
+use layout::ACCESSES_AT;
+use layout::COUNT_AT;
+use layout::HITS_AT;
+use layout::MAXIMUM_AT;
+use layout::MODE_AT;
+use layout::ROWS_AT;
+use layout::THRESHOLD_AT;
+use layout::header::put_settings;
+use layout::header::settings_at;
+use layout::word::mode_of;
+use rules::request::Mode;
+use settings::Settings;
+
+pub fn row_count(table: &[u64]) -> usize
+    requires { ⌜ Good (now table) ⌝ }
+    ensures { λ r. ⌜ r ≡ length (cacheIn (now (table .entry)) .rows) ⌝ }
+{
+    table[ROWS_AT] as usize
+}
+
+pub fn mode(table: &[u64]) -> Mode
+    requires { ⌜ Good (now table) ⌝ }
+    ensures { λ r. ⌜ r ≡ cacheIn (now (table .entry)) .mode ⌝ }
+{
+    mode_of(table[MODE_AT])
+}
+
+pub fn threshold(table: &[u64]) -> u64
+    requires { ⌜ Good (now table) ⌝ }
+    ensures { λ r. ⌜ r ≡ cacheIn (now (table .entry)) .threshold ⌝ }
+{
+    table[THRESHOLD_AT]
+}
+
+pub fn maximum(table: &[u64]) -> u64
+    requires { ⌜ Good (now table) ⌝ }
+    ensures { λ r. ⌜ r ≡ cacheIn (now (table .entry)) .maximum ⌝ }
+{
+    table[MAXIMUM_AT]
+}
+
+pub fn accesses(table: &[u64]) -> u64
+    requires { ⌜ Good (now table) ⌝ }
+    ensures { λ r. ⌜ r ≡ cacheIn (now (table .entry)) .accesses ⌝ }
+{
+    table[ACCESSES_AT]
+}
+
+pub fn hits(table: &[u64]) -> u64
+    requires { ⌜ Good (now table) ⌝ }
+    ensures { λ r. ⌜ r ≡ cacheIn (now (table .entry)) .hits ⌝ }
+{
+    table[HITS_AT]
+}
+
+// The byte count.
+pub fn count(table: &[u64]) -> u64
+    requires { ⌜ Good (now table) ⌝ }
+    ensures { λ r. ⌜ r ≡ cacheIn (now (table .entry)) .count ⌝ }
+{
+    table[COUNT_AT]
+}
+
+pub fn settings(table: &[u64]) -> Settings
+    requires { ⌜ Good (now table) ⌝ }
+    ensures { λ r. ⌜ r ≡ cacheIn (now (table .entry)) .settings ⌝ }
+{
+    settings_at(table)
+}
+
+pub fn set_maximum(table: &mut [u64], n: u64)
+    requires { ⌜ Good (now table) × (cacheIn (now table) .settings .smallest ≤ n) × (n ≤ cacheIn (now table) .settings .largest) ⌝ }
+    ensures { λ _. ⌜ Holds (now (table .exit)) (withMaximum n (cacheIn (now (table .entry)))) (restIn (now (table .entry))) ⌝ }
+{
+    table[MAXIMUM_AT] = n;
+}
+
+// The counters of the epoch.
+pub fn set_counters(table: &mut [u64], accesses: u64, hits: u64)
+    requires { ⌜ Good (now table) ⌝ }
+    ensures { λ _. ⌜ Holds (now (table .exit)) (withCounters accesses hits (cacheIn (now (table .entry)))) (restIn (now (table .entry))) ⌝ }
+{
+    table[ACCESSES_AT] = accesses;
+    table[HITS_AT] = hits;
+}
+
+pub fn set_count(table: &mut [u64], n: u64)
+    requires { ⌜ Good (now table) × (n ≤ countStop) ⌝ }
+    ensures { λ _. ⌜ Holds (now (table .exit)) (withCount n (cacheIn (now (table .entry)))) (restIn (now (table .entry))) ⌝ }
+{
+    table[COUNT_AT] = n;
+}
+
+// New settings and a maximum within their range.
+pub fn set_settings(table: &mut [u64], s: Settings, maximum: u64)
+    requires { ⌜ Good (now table) × Settable s maximum ⌝ }
+    ensures { λ _. ⌜ Holds (now (table .exit)) (withMaximum maximum (withSettings s (cacheIn (now (table .entry))))) (restIn (now (table .entry))) ⌝ }
+{
+    put_settings(table, s);
+    table[MAXIMUM_AT] = maximum;
+}
