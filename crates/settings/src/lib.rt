@@ -7,7 +7,9 @@ ghost use Rattle.settings.specs.Defaults.{defaults};
 mod ranges;
 mod validation;
 
+pub use validation::decreases;
 pub use validation::first_bad_field;
+pub use validation::increases;
 
 // The increase rule.
 pub enum Increase {

@@ -23,7 +23,7 @@ const FEWEST_EPOCHS: u64 = 1;
 const MOST_EPOCHS: u64 = 10;
 
 // Whether the increase rule is on.
-fn increases(i: Increase) -> bool
+pub fn increases(i: Increase) -> bool
     ensures { λ r. ⌜ r ≡ increases i ⌝ }
 {
     match i {
@@ -43,7 +43,7 @@ fn flashes(f: Flash) -> bool
 }
 
 // Whether the decrease rule is on.
-fn decreases(d: Decrease) -> bool
+pub fn decreases(d: Decrease) -> bool
     ensures { λ r. ⌜ r ≡ decreases d ⌝ }
 {
     match d {

@@ -1,0 +1,66 @@
+-- The address is tested first, then found; an address that is not there leaves the cache as it is.
+use mathlib.Core.Path.{sym, _∙_}
+use borrow.Author.Needs.{needs}
+use Rattle.rules.specs.declared.answer.Refusal.the-variants as refusal
+use Rattle.layout.specs.Picture.{cacheIn}
+use Rattle.edits.proofs.Discarded.{discard-address, discard-none}
+use Rattle.edits.proofs.Laws.{refuses, accepts, found-row, found-no}
+use Rattle.edits.proofs.discard.discard.Statement.{statement}
+use Rattle.edits.proofs.discard.discard.Tie as tie
+
+bad-address-requires : tie.Need-bad-address-requires
+bad-address-requires c κs = search needs
+
+returns : tie.Need-returns
+returns c =
+    let s = c .before .before .before in
+    refuses refusal.Address (discard-address (cacheIn (s .args .table .now)) (s .args .address) (sym (c .before .bad-address .ensures) ∙ c .if1 .taken)) (s .pre)
+
+row-count-requires : tie.Need-row-count-requires
+row-count-requires c κs = search needs
+
+find-requires : tie.Need-find-requires
+find-requires c κs = search needs
+
+enum-told : tie.Need-enum-told
+enum-told c = search needs
+
+enum-known-found : tie.Need-enum-known-found
+enum-known-found c = search needs
+
+discard-row-requires : tie.Need-discard-row-requires
+discard-row-requires c κs =
+    let s = c .before .before .before .before .before .before .before .before .before .before .before in
+    let f = found-row (cacheIn (s .args .table .now) .rows) (s .args .address) _ _ (sym (c .before .before .before .before .find .ensures) ∙ c .before .before .found .given .1) in
+    (record { good = s .pre; size = c .before .before .before .before .before .before .row-count .ensures }, f .stands, f .placed, sym (c .before .before .before .before .before .before .before .before .before .bad-address .ensures) ∙ c .before .before .before .before .before .before .before .before .if1 .left)
+
+same-length : tie.Need-same-length
+same-length c = search needs
+
+returns-2 : tie.Need-returns-2
+returns-2 c =
+    let s = c .before .before .before .before .before .before .before .before .before in
+    let n = found-no (cacheIn (s .args .table .now) .rows) (s .args .address) (sym (c .before .before .find .ensures) ∙ c .enum-told .given .1) in
+    accepts (discard-none (cacheIn (s .args .table .now)) (s .args .address) (sym (c .before .before .before .before .before .before .before .bad-address .ensures) ∙ c .before .before .before .before .before .before .if1 .left) (s .pre .steady .sound) n) (s .pre)
+
+same-length-2 : tie.Need-same-length-2
+same-length-2 c = search needs
+
+returns-3 : tie.Need-returns-3
+returns-3 c = search needs
+
+pub discard-spec : {M : Type 1} → statement M
+discard-spec =
+    tie.close
+    (tie.spec
+    bad-address-requires
+    returns
+    row-count-requires
+    find-requires
+    enum-told
+    enum-known-found
+    discard-row-requires
+    same-length
+    returns-2
+    same-length-2
+    returns-3)

@@ -1,0 +1,35 @@
+-- Orders put into the words lent for them, one after the other.
+use Prim.Native.Nat.{ℕ, suc, _+_}
+use mathlib.Core.List.{List, [], _∷_, _++_}
+use mathlib.Core.Path.{_≡_, refl, sym, ap, _∙_}
+use native.Mathlib.Omega.{arith}
+use lib.ListN.{length, length-append}
+use Rattle.rules.specs.Cache.{Work}
+use Rattle.rules.specs.declared.order.Order.{Order}
+use Rattle.layout.specs.Leaves.{putOrder}
+use Rattle.room.specs.After.{after}
+use Rattle.room.specs.Did.{putOrders, Did}
+
+pub put-none : (n : ℕ) (ws : List ℕ) → ws ≡ putOrders n [] ws
+unfolding putOrders
+put-none n ws = refl
+
+pub put-more : (n : ℕ) (l m : List Order) (ws : List ℕ) → putOrders n (l ++ m) ws ≡ putOrders (n + length l) m (putOrders n l ws)
+unfolding putOrders
+put-more n [] m ws = let e : n ≡ n + 0 = omega arith in ap (λ (k : ℕ). putOrders k m ws) e
+put-more n (o ∷ l) m ws =
+    let e : suc n + length l ≡ n + suc (length l) = omega arith in
+    put-more (suc n) l m (putOrder n o ws) ∙ ap (λ (k : ℕ). putOrders k m (putOrders (suc n) l (putOrder n o ws))) e
+
+pub put-next : (n : ℕ) (l : List Order) (o : Order) (ws : List ℕ) → putOrders n (l ++ o ∷ []) ws ≡ putOrder (n + length l) o (putOrders n l ws)
+unfolding putOrders
+put-next n l o ws = put-more n l (o ∷ []) ws
+
+-- a piece of work after another
+pub did-then : {v w : Work} {rest table₁ table : List ℕ} {before given r : ℕ} {lent words₁ words : List ℕ} → Did v rest table₁ before lent words₁ given
+    → Did w rest table given words₁ words r → Did (after (v .orders) w) rest table before lent words r
+did-then {v} {w} {before = before} {lent = lent} p q = record {
+  holds = q .holds;
+  orders = q .orders ∙ rw (p .orders, p .number) (sym (put-more before (v .orders) (w .orders) lent));
+  number = let e = p .number in let f = q .number in let g = length-append (v .orders) (w .orders) in omega arith;
+}

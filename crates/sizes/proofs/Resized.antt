@@ -1,0 +1,99 @@
+-- What a resize comes to, case by case.
+use Prim.Native.Nat.{ℕ}
+use mathlib.Core.Bool.{true, false, not, _&&_}
+use mathlib.Core.List.{List, []}
+use mathlib.Core.Option.{none, some}
+use mathlib.Core.Path.{_≡_, refl, sym, ap, subst, _∙_}
+use lib.ListN.{length}
+use Rattle.rules.proofs.Found.{absent}
+use Rattle.rules.specs.Allowed.{EntryAllowed}
+use Rattle.rules.specs.Cache.{Cache, amendAt}
+use Rattle.rules.specs.Entries.{isListed, isRead, isWritten, changedTo}
+use Rattle.rules.specs.Hosts.{asking}
+use Rattle.rules.specs.Refusals.{badAddress, badSize, tests, firstOf, refusalOf}
+use Rattle.rules.specs.Requests.{named, effect, step}
+use Rattle.rules.specs.Rows.{get, passes, isHere}
+use Rattle.rules.specs.declared.answer.Refusal.the-variants as refusal
+use Rattle.rules.specs.declared.entry.Entry.{Entry}
+use Rattle.rules.specs.declared.entry.Row.{Row}
+use Rattle.rules.specs.declared.request.Request.the-variants.{Resize}
+use Rattle.layout.proofs.Held.{holds-cache}
+use Rattle.layout.specs.Holds.{Holds}
+use Rattle.layout.specs.Picture.{cacheIn, restIn}
+use Rattle.table.proofs.Told.{good-rows, told-address}
+use Rattle.table.specs.Asked.{GoodRows, RowOf}
+use Rattle.table.specs.Told.{become}
+use Rattle.edits.proofs.Laws.{Keeps, refused, accepted, asks-set, told-set}
+use Rattle.flash.proofs.Laws.{onward}
+use Rattle.sizes.proofs.Laws.{size-most, size-some, flashed-rows}
+
+pub changed-keeps : (s : ℕ) (e : Entry) → badSize s ≡ false → Keeps (changedTo s) e
+changed-keeps s e b = record {
+  address = λ x. refl;
+  allowed = λ k. record { address = k .address; nonempty = size-some s b; size = size-most s b; idle = k .idle; hold = k .hold };
+}
+
+-- an entry is found at its own address
+pub own-get : (rows : List Row) (a : ℕ) (e : Entry) → get rows a ≡ some e → get rows (e .address) ≡ some e
+own-get rows a e g = ap (get rows) (told-address rows a e g) ∙ g
+
+-- ---- after the size is named
+
+module _ {vs rest : List ℕ} (c : Cache) (b s : ℕ) (h : Holds vs (named b s c) rest) where
+  named-rows : cacheIn vs .rows ≡ c .rows
+  named-rows = ap (λ (d : Cache). d .rows) (holds-cache h) ∙ flashed-rows _ c
+
+  module _ {a rows row : ℕ} {e x : Entry} (z : badSize s ≡ false) (p : x ≡ changedTo s e) (q : rows ≡ length (c .rows)) (r : RowOf (c .rows) a row) (g : get (c .rows) a ≡ some e) where
+    good : GoodRows vs rows
+    good = good-rows h (q ∙ sym (ap length (flashed-rows _ c)))
+
+    there : RowOf (cacheIn vs .rows) a row
+    there = rw named-rows r
+
+    found : get (cacheIn vs .rows) a ≡ some e
+    found = rw named-rows g
+
+    -- what setting the entry asks
+    pub named-asks : GoodRows vs rows × RowOf (cacheIn vs .rows) (x .address) row × EntryAllowed x × (isListed x ≡ passes isListed (get (cacheIn vs .rows) (x .address)))
+    named-asks = asks-set (changedTo s) (changed-keeps s e z) p good there found refl
+
+    -- and what it leaves
+    pub named-told : {ws : List ℕ} → b ≡ a → Holds ws (amendAt (x .address) (become x) (cacheIn vs)) (restIn vs) → Holds ws (amendAt a (changedTo s) (named a s c)) rest
+    named-told {ws} w k =
+        subst (λ (n : ℕ). Holds ws (amendAt a (changedTo s) (named n s c)) rest) w
+        (onward (amendAt a (changedTo s)) h (told-set (changedTo s) (changed-keeps s e z) p good there found k))
+
+-- ---- the step
+
+module _ (c : Cache) (a s : ℕ) where
+  pub resize-address : badAddress a ≡ true → step c (asking (Resize a s) [] 0) ≡ refused refusal.Address c
+  unfolding step refusalOf tests firstOf
+  resize-address b = rw b
+
+  module _ (b : badAddress a ≡ false) where
+    pub resize-size : badSize s ≡ true → step c (asking (Resize a s) [] 0) ≡ refused refusal.Size c
+    unfolding step refusalOf tests firstOf
+    resize-size z = rw (b, z)
+
+    module _ (z : badSize s ≡ false) where
+      pub resize-absent : isHere (c .rows) a ≡ false → step c (asking (Resize a s) [] 0) ≡ refused refusal.Absent c
+      unfolding step refusalOf tests firstOf
+      resize-absent h = rw (b, z, absent (get (c .rows) a) h)
+
+      module _ (e : Entry) (g : get (c .rows) a ≡ some e) where
+        pub resize-held : isRead (e .hold) ≡ true → step c (asking (Resize a s) [] 0) ≡ refused refusal.Held c
+        unfolding step refusalOf tests firstOf
+        resize-held h = rw (b, z, g, h)
+
+        module _ (h : isRead (e .hold) ≡ false) where
+          pub resize-unheld : not (e .pinned) && not (isWritten (e .hold)) ≡ true → step c (asking (Resize a s) [] 0) ≡ refused refusal.Unheld c
+          unfolding step refusalOf tests firstOf
+          resize-unheld u = rw (b, z, g, h, u)
+
+          verdict : not (e .pinned) && not (isWritten (e .hold)) ≡ false → refusalOf c (asking (Resize a s) [] 0) ≡ none
+          unfolding refusalOf tests firstOf
+          verdict u = rw (b, z, g, h, u)
+
+          pub resize-done : not (e .pinned) && not (isWritten (e .hold)) ≡ false → step c (asking (Resize a s) [] 0) ≡ accepted (amendAt a (changedTo s) (named a s c))
+          unfolding step effect
+          resize-done u = rw (verdict u)
