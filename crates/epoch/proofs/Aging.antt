@@ -23,7 +23,7 @@ use Rattle.rules.specs.declared.order.Kind.{Kind}
 use Rattle.rules.specs.declared.order.Order.{Order}
 use Rattle.rules.specs.declared.request.Mode.{Mode}
 use Rattle.rules.specs.declared.request.Mode.the-variants.{Alone, Lead, Standby}
-use Rattle.layout.proofs.Cuts.{cut, cut-strike}
+use Rattle.layout.proofs.Cuts.{drop-cut, cut-strike}
 use Rattle.layout.proofs.Held.{holds-cache}
 use Rattle.layout.specs.Picture.{cacheIn, restIn}
 use Rattle.table.specs.Asked.{GoodRows}
@@ -95,13 +95,6 @@ module _ (n : ℕ) (c : Cache) (orders : List Order) (pos : ℕ) (low : pos < le
   goes : {v : Work} → agedAt n c (getD (c .recency) pos 0) ≡ true → expel (c .mode) (getD (c .recency) pos 0) (work c orders) ≡ v
       → evictAged n (drop pos (c .recency)) (work c orders) ≡ evictAged n (drop (suc pos) (c .recency)) v
   goes h e = looks true h ∙ ap (evictAged n (drop (suc pos) (c .recency))) e
-
-drop-cut : (pos : ℕ) (l : List ℕ) → drop pos (cut pos l) ≡ drop (suc pos) l
-unfolding cut
-drop-cut zero [] = refl
-drop-cut (suc pos) [] = refl
-drop-cut zero (x ∷ l) = refl
-drop-cut (suc pos) (x ∷ l) = drop-cut pos l
 
 -- ---- what the loops keep
 

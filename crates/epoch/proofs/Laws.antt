@@ -25,7 +25,7 @@ use Rattle.rules.specs.Cache.{Cache, Work, start, withMaximum, withCounters, he
 use Rattle.rules.specs.Entries.{if_then_else_}
 use Rattle.rules.specs.Resizing.{isBelow, isFull, atMost, atLeast, increasedBy, increasedIn, lowered, loweredIn, lower, evictAged, ageOut, decreasedBy, resized, aged, endEpoch, counts, counted, countAccess}
 use Rattle.rules.specs.Room.{makeRoom}
-use Rattle.layout.proofs.Held.{holds-cache, holds-rest}
+use Rattle.layout.proofs.Held.{holds-cache, holds-rest, onward}
 use Rattle.layout.specs.Holds.{Holds, Good}
 use Rattle.layout.specs.Picture.{cacheIn, restIn}
 use Rattle.table.proofs.Told.{good-rows}
@@ -33,23 +33,9 @@ use Rattle.table.specs.Asked.{GoodRows}
 use Rattle.table.specs.Told.{aged as agedRows}
 use Rattle.room.proofs.After.{same-work, room-carries}
 use Rattle.room.proofs.Kept.{did-start}
-use Rattle.room.proofs.Orders.{put-none, did-then}
+use Rattle.room.proofs.Orders.{did-then, did-onward, did-holds}
 use Rattle.room.specs.After.{after}
 use Rattle.room.specs.Did.{Did, Fits}
-
--- a change of the cache that a table holds
-onward : {vs ws rest : List ℕ} {c : Cache} (f : Cache → Cache) → Holds vs c rest → Holds ws (f (cacheIn vs)) (restIn vs) → Holds ws (f c) rest
-onward {vs} {ws} {rest} f h k =
-    subst (λ (d : Cache). Holds ws (f d) rest) (holds-cache h) (subst (λ (r : List ℕ). Holds ws (f (cacheIn vs)) r) (holds-rest h) k)
-
--- a change after work that leaves the orders as they are
-did-onward : {v : Work} {rest table₁ table₂ lent words : List ℕ} {before given : ℕ} (f : Cache → Cache) → Did v rest table₁ before lent words given
-    → Holds table₂ (f (cacheIn table₁)) (restIn table₁) → Did (record { cache = f (v .cache); orders = v .orders }) rest table₂ before lent words given
-did-onward f d k = record { holds = onward f (d .holds) k; orders = d .orders; number = d .number }
-
--- a change with no order
-did-holds : {d : Cache} {rest table lent : List ℕ} {before : ℕ} → Holds table d rest → Did (start d) rest table before lent lent before
-did-holds {lent = lent} {before} h = record { holds = h; orders = put-none before lent; number = omega arith }
 
 -- ---- the maximum lowered
 

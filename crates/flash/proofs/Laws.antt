@@ -13,15 +13,10 @@ use Rattle.settings.specs.declared.Settings.{Settings}
 use Rattle.rules.proofs.Tests.{choose, either}
 use Rattle.rules.specs.Cache.{Cache, withMaximum, withCounters, held}
 use Rattle.rules.specs.Resizing.{flashMaximum, flashedTo, flashed}
-use Rattle.layout.proofs.Held.{holds-cache, holds-rest}
+use Rattle.layout.proofs.Held.{onward}
 use Rattle.layout.specs.Holds.{Holds}
 use Rattle.layout.specs.Picture.{cacheIn, restIn}
 use Rattle.flash.specs.Raised.{isFlash, raised}
-
--- a change of the cache that a table holds
-pub onward : {vs ws rest : List ℕ} {c : Cache} (f : Cache → Cache) → Holds vs c rest → Holds ws (f (cacheIn vs)) (restIn vs) → Holds ws (f c) rest
-onward {vs} {ws} {rest} f h k =
-    subst (λ (d : Cache). Holds ws (f d) rest) (holds-cache h) (subst (λ (r : List ℕ). Holds ws (f (cacheIn vs)) r) (holds-rest h) k)
 
 -- ---- the maximum after a flash
 

@@ -6,7 +6,7 @@ use mathlib.Core.Path.{_≡_, refl, sym, ap, ap₂, _∙_}
 use native.Mathlib.Nat.{le-of-suc-le-suc}
 use native.Mathlib.Omega.{arith}
 use lib.Dec.{eqb, leb, ltb}
-use lib.ListN.{length, getD, set, take, replicate, length-append, List·getD-append}
+use lib.ListN.{length, getD, set, take, drop, replicate, length-append, List·getD-append}
 use lib.Seq.{take-at, set-append-seam}
 use borrow.Author.Tests.{eq-eqb, ne-eqb, leb-true, leb-false, lt-ltb, le-ltb}
 use Rattle.words.specs.Runs.{removed, inserted}
@@ -33,6 +33,13 @@ unfolding cut
 length-cut pos [] h = absurd (omega arith)
 length-cut zero (x ∷ l) h = omega arith
 length-cut (suc pos) (x ∷ l) h = let ih = length-cut pos l (le-of-suc-le-suc h) in omega arith
+
+pub drop-cut : (pos : ℕ) (l : List ℕ) → drop pos (cut pos l) ≡ drop (suc pos) l
+unfolding cut
+drop-cut zero [] = refl
+drop-cut (suc pos) [] = refl
+drop-cut zero (x ∷ l) = refl
+drop-cut (suc pos) (x ∷ l) = drop-cut pos l
 
 -- ---- in a run's words
 

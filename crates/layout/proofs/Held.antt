@@ -3,7 +3,7 @@ use Prim.Native.Nat.{ℕ, zero, suc, _+_, _<_, _≤_}
 use mathlib.Core.Bool.{true}
 use mathlib.Core.List.{List, [], _∷_, _++_, map}
 use mathlib.Core.Option.{some}
-use mathlib.Core.Path.{_≡_, sym, ap, _∙_}
+use mathlib.Core.Path.{_≡_, sym, ap, subst, _∙_}
 use native.Mathlib.Omega.{arith}
 use lib.ListN.{length, getD, take, drop, length-map}
 use lib.Seq.{take-at}
@@ -154,3 +154,9 @@ module _ {ws : List ℕ} {c : Cache} {rest : List ℕ} (h : Holds ws c rest) whe
 
   pub address-get : (pos : ℕ) → pos < length (addresses (c .rows)) → isHere (c .rows) (getD (addresses (c .rows)) pos 0) ≡ true
   address-get pos l = sym (elem-addresses (c .rows) (getD (addresses (c .rows)) pos 0)) ∙ elem-at pos (addresses (c .rows)) l
+
+-- ---- a change of the cache that a table holds
+
+pub onward : {vs ws rest : List ℕ} {c : Cache} (f : Cache → Cache) → Holds vs c rest → Holds ws (f (cacheIn vs)) (restIn vs) → Holds ws (f c) rest
+onward {vs} {ws} {rest} f h k =
+    subst (λ (d : Cache). Holds ws (f d) rest) (holds-cache h) (subst (λ (r : List ℕ). Holds ws (f (cacheIn vs)) r) (holds-rest h) k)

@@ -17,7 +17,7 @@ use Rattle.rules.specs.Rows.{get, passes, cleanAt, dirtyAt, sizeAt}
 use Rattle.rules.specs.declared.entry.Entry.{Entry}
 use Rattle.rules.specs.declared.order.Kind.{Kind}
 use Rattle.rules.specs.declared.order.Order.{Order}
-use Rattle.layout.proofs.Cuts.{cut, cut-strike}
+use Rattle.layout.proofs.Cuts.{drop-cut, cut-strike}
 use Rattle.layout.proofs.Held.{holds-cache}
 use Rattle.layout.specs.Picture.{cacheIn, restIn}
 use Rattle.table.specs.Asked.{GoodRows}
@@ -54,13 +54,6 @@ module _ (x : ℕ) (row : Bool) (c : Cache) (orders : List Order) (pos : ℕ) (l
   evicts : lacking x row c ≡ true → cleanAt (c .rows) (getD (c .recency) pos 0) ≡ true
       → evictClean x row (drop pos (c .recency)) (work c orders) ≡ evictClean x row (drop (suc pos) (c .recency)) (evict (getD (c .recency) pos 0) (work c orders))
   evicts l h = looks true (ap₂ (λ (s t : Bool). s && t) l h)
-
-drop-cut : (pos : ℕ) (l : List ℕ) → drop pos (cut pos l) ≡ drop (suc pos) l
-unfolding cut
-drop-cut zero [] = refl
-drop-cut (suc pos) [] = refl
-drop-cut zero (x ∷ l) = refl
-drop-cut (suc pos) (x ∷ l) = drop-cut pos l
 
 -- ---- what the loop keeps
 

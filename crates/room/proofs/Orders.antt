@@ -4,9 +4,12 @@ use mathlib.Core.List.{List, [], _∷_, _++_}
 use mathlib.Core.Path.{_≡_, refl, sym, ap, _∙_}
 use native.Mathlib.Omega.{arith}
 use lib.ListN.{length, length-append}
-use Rattle.rules.specs.Cache.{Work}
+use Rattle.rules.specs.Cache.{Cache, Work, start}
 use Rattle.rules.specs.declared.order.Order.{Order}
+use Rattle.layout.proofs.Held.{onward}
+use Rattle.layout.specs.Holds.{Holds}
 use Rattle.layout.specs.Leaves.{putOrder}
+use Rattle.layout.specs.Picture.{cacheIn, restIn}
 use Rattle.room.specs.After.{after}
 use Rattle.room.specs.Did.{putOrders, Did}
 
@@ -33,3 +36,12 @@ did-then {v} {w} {before = before} {lent = lent} p q = record {
   orders = q .orders ∙ rw (p .orders, p .number) (sym (put-more before (v .orders) (w .orders) lent));
   number = let e = p .number in let f = q .number in let g = length-append (v .orders) (w .orders) in omega arith;
 }
+
+-- a change after work that leaves the orders as they are
+pub did-onward : {v : Work} {rest table₁ table₂ lent words : List ℕ} {before given : ℕ} (f : Cache → Cache) → Did v rest table₁ before lent words given
+    → Holds table₂ (f (cacheIn table₁)) (restIn table₁) → Did (record { cache = f (v .cache); orders = v .orders }) rest table₂ before lent words given
+did-onward f d k = record { holds = onward f (d .holds) k; orders = d .orders; number = d .number }
+
+-- a change with no order
+pub did-holds : {d : Cache} {rest table lent : List ℕ} {before : ℕ} → Holds table d rest → Did (start d) rest table before lent lent before
+did-holds {lent = lent} {before} h = record { holds = h; orders = put-none before lent; number = omega arith }

@@ -80,7 +80,7 @@ figures c lent list (Configure s) k h r =
 
 -- ---- every request
 
-figures-allowed : (c : Cache) → Allowed c → InRange (figuresOf c)
+pub figures-allowed : (c : Cache) → Allowed c → InRange (figuresOf c)
 figures-allowed c k = record {
   ranged = record { settings = k .settings; least = k .least; most = k .most; hits = k .hits; count = k .count };
   early = k .accesses;

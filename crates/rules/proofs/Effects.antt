@@ -24,6 +24,7 @@ use Rattle.rules.specs.Cache.{Cache, Work, start, held, touch, amendAt, 
 use Rattle.rules.specs.Entries.{isHeld, isListed, forbids, joined, lessOne, withPin, cleaned, changedTo, protectedFor, released, newEntry}
 use Rattle.rules.specs.History.{evictedBytes, broughtIn, newSize, oldSize, thrownAway}
 use Rattle.rules.specs.Kept.{Kept}
+use Rattle.rules.specs.Limits.{mostSize}
 use Rattle.rules.specs.Refusals.{tests, firstOf, badAddress, badSize, noRow}
 use Rattle.rules.specs.Requests.{effect, loaded, hit, missed, roomIfReleased, named, adds, writesOf, configured}
 use Rattle.rules.specs.Resizing.{flashed, flashedTo}
@@ -125,19 +126,24 @@ starts-same k = starts (record { mode = refl; threshold = refl; rows = refl }) k
 
 -- ---- entries within their limits
 
+-- a size that is not refused
+module _ (s : ℕ) (sized : badSize s ≡ false) where
+  pub size-some : 1 ≤ s
+  size-some = omega (arith, eqb-false s 0 (neither (eqb s 0) _ sized .0))
+
+  pub size-most : s ≤ mostSize
+  size-most = ltb-false mostSize s (neither (eqb s 0) _ sized .1)
+
 -- an address and a size that are not refused
 module _ (a s : ℕ) (ok : badAddress a ≡ false) (sized : badSize s ≡ false) where
-  new-allowed : (d : Bool) (h : Hold) → HoldAllowed h → EntryAllowed (newEntry a s d h)
-  new-allowed d h k =
-      let n = neither (eqb s 0) _ sized in
-      record { address = ok; nonempty = omega (arith, eqb-false s 0 (n .0)); size = omega (arith, ltb-false _ s (n .1)); idle = omega arith; hold = k }
+  pub new-allowed : (d : Bool) (h : Hold) → HoldAllowed h → EntryAllowed (newEntry a s d h)
+  new-allowed d h k = record { address = ok; nonempty = size-some s sized; size = size-most s sized; idle = omega arith; hold = k }
 
-changed-allowed : (s : ℕ) (e : Entry) → badSize s ≡ false → EntryAllowed e → EntryAllowed (changedTo s e)
+pub changed-allowed : (s : ℕ) (e : Entry) → badSize s ≡ false → EntryAllowed e → EntryAllowed (changedTo s e)
 changed-allowed s e sized k =
-    let n = new-allowed (e .address) s (k .address) sized true Unheld tt in
-    record { address = k .address; nonempty = n .nonempty; size = n .size; idle = k .idle; hold = k .hold }
+    record { address = k .address; nonempty = size-some s sized; size = size-most s sized; idle = k .idle; hold = k .hold }
 
-joined-new : (x : Access) → HoldAllowed (joined x Unheld)
+pub joined-new : (x : Access) → HoldAllowed (joined x Unheld)
 joined-new Reading = omega arith
 joined-new Writing = tt
 
@@ -152,7 +158,7 @@ less-allowed Unheld k = tt
 less-allowed (Readers n) k = choose HoldAllowed (leb n 1) (λ p. tt) (λ p. let i = leb-false n 1 p in omega arith)
 less-allowed Writer k = tt
 
-protected-allowed : (x : Access) (e : Entry) → forbids (e .hold) x ≡ false → EntryAllowed e → EntryAllowed (protectedFor x e)
+pub protected-allowed : (x : Access) (e : Entry) → forbids (e .hold) x ≡ false → EntryAllowed e → EntryAllowed (protectedFor x e)
 protected-allowed x e f k = record {
   address = k .address;
   nonempty = k .nonempty;
@@ -161,7 +167,7 @@ protected-allowed x e f k = record {
   hold = joined-allowed x (e .hold) f (k .hold);
 }
 
-released-allowed : (e : Entry) → EntryAllowed e → EntryAllowed (released e)
+pub released-allowed : (e : Entry) → EntryAllowed e → EntryAllowed (released e)
 released-allowed e k = record {
   address = k .address;
   nonempty = k .nonempty;

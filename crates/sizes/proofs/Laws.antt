@@ -1,37 +1,21 @@
 -- A size named for an entry: a flash keeps the rows and the byte count, and the count adds the size of a clean entry.
-use Prim.Native.Nat.{ℕ, zero, suc, _+_, _-_, _≤_, min}
+use Prim.Native.Nat.{ℕ, _+_, _-_, min}
 use mathlib.Core.Bool.{Bool, true, false}
 use mathlib.Core.List.{List}
 use mathlib.Core.Option.{some}
 use mathlib.Core.Path.{_≡_, refl, sym, ap, ap₂, subst, _∙_}
-use native.Mathlib.Omega.{arith}
-use lib.Dec.{eqb, ltb}
-use borrow.Author.Tests.{eqb-false, ltb-false}
-use Rattle.rules.proofs.Tests.{choose, neither}
+use lib.Dec.{ltb}
+use Rattle.rules.proofs.Tests.{choose}
 use Rattle.rules.specs.Cache.{Cache, withCount}
-use Rattle.rules.specs.Limits.{mostSize, countStop}
-use Rattle.rules.specs.Refusals.{badSize}
+use Rattle.rules.specs.Limits.{countStop}
 use Rattle.rules.specs.Requests.{adds, growth, named}
 use Rattle.rules.specs.Resizing.{flashed, flashedTo}
 use Rattle.rules.specs.Rows.{get}
 use Rattle.rules.specs.declared.entry.Entry.{Entry}
-use Rattle.layout.proofs.Held.{holds-cache}
+use Rattle.layout.proofs.Held.{holds-cache, onward}
 use Rattle.layout.specs.Holds.{Holds}
 use Rattle.layout.specs.Picture.{cacheIn, restIn}
 use Rattle.table.proofs.Told.{told-size, told-dirty}
-use Rattle.flash.proofs.Laws.{onward}
-
--- ---- a size within its limits
-
-pub size-most : (s : ℕ) → badSize s ≡ false → s ≤ mostSize
-size-most s b = ltb-false mostSize s (neither (eqb s 0) (ltb mostSize s) b .1)
-
-pub size-some : (s : ℕ) → badSize s ≡ false → 1 ≤ s
-size-some s b = go s (eqb-false s 0 (neither (eqb s 0) (ltb mostSize s) b .0))
-  where
-    go : (n : ℕ) → (n ≡ 0 → ⊥) → 1 ≤ n
-    go zero f = absurd (f refl)
-    go (suc n) f = omega arith
 
 -- ---- what a flash keeps
 

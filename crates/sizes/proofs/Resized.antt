@@ -5,6 +5,7 @@ use mathlib.Core.List.{List, []}
 use mathlib.Core.Option.{none, some}
 use mathlib.Core.Path.{_≡_, refl, sym, ap, subst, _∙_}
 use lib.ListN.{length}
+use Rattle.rules.proofs.Effects.{changed-allowed}
 use Rattle.rules.proofs.Found.{absent}
 use Rattle.rules.specs.Allowed.{EntryAllowed}
 use Rattle.rules.specs.Cache.{Cache, amendAt}
@@ -17,20 +18,19 @@ use Rattle.rules.specs.declared.answer.Refusal.the-variants as refusal
 use Rattle.rules.specs.declared.entry.Entry.{Entry}
 use Rattle.rules.specs.declared.entry.Row.{Row}
 use Rattle.rules.specs.declared.request.Request.the-variants.{Resize}
-use Rattle.layout.proofs.Held.{holds-cache}
+use Rattle.layout.proofs.Held.{holds-cache, onward}
 use Rattle.layout.specs.Holds.{Holds}
 use Rattle.layout.specs.Picture.{cacheIn, restIn}
 use Rattle.table.proofs.Told.{good-rows, told-address}
 use Rattle.table.specs.Asked.{GoodRows, RowOf}
 use Rattle.table.specs.Told.{become}
 use Rattle.edits.proofs.Laws.{Keeps, refused, accepted, asks-set, told-set}
-use Rattle.flash.proofs.Laws.{onward}
-use Rattle.sizes.proofs.Laws.{size-most, size-some, flashed-rows}
+use Rattle.sizes.proofs.Laws.{flashed-rows}
 
 pub changed-keeps : (s : ℕ) (e : Entry) → badSize s ≡ false → Keeps (changedTo s) e
 changed-keeps s e b = record {
   address = λ x. refl;
-  allowed = λ k. record { address = k .address; nonempty = size-some s b; size = size-most s b; idle = k .idle; hold = k .hold };
+  allowed = changed-allowed s e b;
 }
 
 -- an entry is found at its own address

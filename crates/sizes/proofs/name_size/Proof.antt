@@ -3,7 +3,8 @@ use native.Mathlib.Omega.{arith}
 use borrow.Author.Needs.{needs}
 use Rattle.layout.proofs.Held.{holds-good}
 use Rattle.layout.specs.Picture.{cacheIn}
-use Rattle.sizes.proofs.Laws.{size-most, named-dirty, named-clean}
+use Rattle.rules.proofs.Effects.{size-most}
+use Rattle.sizes.proofs.Laws.{named-dirty, named-clean}
 use Rattle.sizes.proofs.name_size.Statement.{statement}
 use Rattle.sizes.proofs.name_size.Tie as tie
 
