@@ -1,4 +1,5 @@
 pub mod Laws
+pub mod Outcomes
 pub mod Pinned
 pub mod Discarded
 pub mod Marked

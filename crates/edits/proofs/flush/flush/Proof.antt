@@ -1,9 +1,8 @@
 -- The tests are the rules', in their order; then every dirty entry is written, and the byte count set to 0.
-use Prim.Native.Nat.{ℕ, _+_, _*_}
+use Prim.Native.Nat.{_+_, _*_}
 use mathlib.Core.Bool.{true, false}
 use mathlib.Core.Path.{_≡_, sym, ap, _∙_}
 use native.Mathlib.Omega.{arith}
-use lib.Dec.{ltb}
 use lib.ListN.{length}
 use borrow.Author.Needs.{needs}
 use borrow.Author.Tests.{ltb-false}
@@ -11,6 +10,7 @@ use Rattle.rules.specs.Refusals.{isStandby}
 use Rattle.layout.proofs.Held.{holds-good}
 use Rattle.layout.specs.Picture.{cacheIn}
 use Rattle.edits.proofs.Answers.{flush-words, flush-mode, flush-held, flush-done}
+use Rattle.edits.proofs.Outcomes.{words-told}
 use Rattle.edits.proofs.flush.flush.Statement.{statement}
 use Rattle.edits.proofs.flush.flush.Tie as tie
 
@@ -26,8 +26,7 @@ same-length c = search needs
 returns : tie.Need-returns
 returns c =
     let s = c .before .before .before .before .before .before in
-    let t : ltb (length (s .args .orders .now)) (3 * (2 * length (cacheIn (s .args .table .now) .rows) + 1)) ≡ true =
-    ap (λ (n : ℕ). ltb (length (s .args .orders .now)) (3 * (2 * n + 1))) (sym (c .before .before .row-count .ensures)) ∙ sym (c .before .too-few-words .ensures) ∙ c .if1 .taken in
+    let t = words-told (s .args .orders .now) (c .before .before .row-count .ensures) (c .before .too-few-words .ensures) (c .if1 .taken) in
     flush-words (s .args .orders .now) (s .pre) t
 
 mode-requires : tie.Need-mode-requires
@@ -42,8 +41,7 @@ same-length-2 c = search needs
 returns-2 : tie.Need-returns-2
 returns-2 c =
     let s = c .before .before .before .before .before .before .before .before .before .before in
-    let t : ltb (length (s .args .orders .now)) (3 * (2 * length (cacheIn (s .args .table .now) .rows) + 1)) ≡ false =
-    ap (λ (n : ℕ). ltb (length (s .args .orders .now)) (3 * (2 * n + 1))) (sym (c .before .before .before .before .before .before .row-count .ensures)) ∙ sym (c .before .before .before .before .before .too-few-words .ensures) ∙ c .before .before .before .before .if1 .left in
+    let t = words-told (s .args .orders .now) (c .before .before .before .before .before .before .row-count .ensures) (c .before .before .before .before .before .too-few-words .ensures) (c .before .before .before .before .if1 .left) in
     let m : isStandby (cacheIn (s .args .table .now) .mode) ≡ true = ap isStandby (sym (c .before .before .mode .ensures)) ∙ sym (c .before .is-standby .ensures) ∙ c .if2 .taken in
     flush-mode (s .args .orders .now) (s .pre) t m
 
@@ -56,8 +54,7 @@ same-length-3 c = search needs
 returns-3 : tie.Need-returns-3
 returns-3 c =
     let s = c .before .before .before .before .before .before .before .before .before .before .before .before .before in
-    let t : ltb (length (s .args .orders .now)) (3 * (2 * length (cacheIn (s .args .table .now) .rows) + 1)) ≡ false =
-    ap (λ (n : ℕ). ltb (length (s .args .orders .now)) (3 * (2 * n + 1))) (sym (c .before .before .before .before .before .before .before .before .before .row-count .ensures)) ∙ sym (c .before .before .before .before .before .before .before .before .too-few-words .ensures) ∙ c .before .before .before .before .before .before .before .if1 .left in
+    let t = words-told (s .args .orders .now) (c .before .before .before .before .before .before .before .before .before .row-count .ensures) (c .before .before .before .before .before .before .before .before .too-few-words .ensures) (c .before .before .before .before .before .before .before .if1 .left) in
     let m : isStandby (cacheIn (s .args .table .now) .mode) ≡ false = ap isStandby (sym (c .before .before .before .before .before .mode .ensures)) ∙ sym (c .before .before .before .before .is-standby .ensures) ∙ c .before .before .before .if2 .left in
     flush-held (s .args .orders .now) (s .pre) t m (sym (c .before .any-held .ensures) ∙ c .if3 .taken)
 
@@ -80,8 +77,7 @@ same-length-5 c = search needs
 returns-4 : tie.Need-returns-4
 returns-4 c =
     let s = c .before .before .before .before .before .before .before .before .before .before .before .before .before .before .before .before .before .before .before .before .before .before .before .before in
-    let t : ltb (length (s .args .orders .now)) (3 * (2 * length (cacheIn (s .args .table .now) .rows) + 1)) ≡ false =
-    ap (λ (n : ℕ). ltb (length (s .args .orders .now)) (3 * (2 * n + 1))) (sym (c .before .before .before .before .before .before .before .before .before .before .before .before .before .before .before .before .before .before .before .before .row-count .ensures)) ∙ sym (c .before .before .before .before .before .before .before .before .before .before .before .before .before .before .before .before .before .before .before .too-few-words .ensures) ∙ c .before .before .before .before .before .before .before .before .before .before .before .before .before .before .before .before .before .before .if1 .left in
+    let t = words-told (s .args .orders .now) (c .before .before .before .before .before .before .before .before .before .before .before .before .before .before .before .before .before .before .before .before .row-count .ensures) (c .before .before .before .before .before .before .before .before .before .before .before .before .before .before .before .before .before .before .before .too-few-words .ensures) (c .before .before .before .before .before .before .before .before .before .before .before .before .before .before .before .before .before .before .if1 .left) in
     let m : isStandby (cacheIn (s .args .table .now) .mode) ≡ false = ap isStandby (sym (c .before .before .before .before .before .before .before .before .before .before .before .before .before .before .before .before .mode .ensures)) ∙ sym (c .before .before .before .before .before .before .before .before .before .before .before .before .before .before .before .is-standby .ensures) ∙ c .before .before .before .before .before .before .before .before .before .before .before .before .before .before .if2 .left in
     flush-done (s .args .orders .now) (s .pre) t m (sym (c .before .before .before .before .before .before .before .before .before .before .before .before .any-held .ensures) ∙ c .before .before .before .before .before .before .before .before .before .before .before .if3 .left) (c .before .before .before .before .before .before .before .before .write-all .ensures) (c .before .before .set-count .ensures)
 
