@@ -1,0 +1,2 @@
+pub mod Configured
+pub mod Answers

@@ -1,0 +1,2 @@
+pub mod NewEntry
+pub mod Answers

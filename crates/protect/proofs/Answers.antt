@@ -1,0 +1,79 @@
+-- What a protect answers: the first of its tests that passes, and else its effect, a hit or a miss.
+use Prim.Native.Nat.{ℕ}
+use mathlib.Core.Bool.{Bool, true, false, not, _&&_}
+use mathlib.Core.List.{List, [], _∷_}
+use mathlib.Core.Option.{none, some}
+use mathlib.Core.Path.{_≡_, sym, ap, subst, _∙_}
+use lib.ListN.{length}
+use Rattle.rules.specs.Cache.{Cache}
+use Rattle.rules.specs.Entries.{if_then_else_, forbids}
+use Rattle.rules.specs.Hosts.{asking}
+use Rattle.rules.specs.Refusals.{Call, badAddress, badSize, noRow, entryTest, tooFewWords, firstOf, tests, refusalOf}
+use Rattle.rules.specs.Requests.{hit, missed, effect, step}
+use Rattle.rules.specs.Rows.{get, passes, isHere}
+use Rattle.rules.specs.declared.answer.Answer.the-variants.{Accepted, Refused}
+use Rattle.rules.specs.declared.answer.Refusal.the-variants as refusal
+use Rattle.rules.specs.declared.entry.Entry.{Entry}
+use Rattle.rules.specs.declared.request.Access.{Access}
+use Rattle.rules.specs.declared.request.Request.the-variants.{Protect}
+use Rattle.layout.specs.Holds.{Holds}
+use Rattle.room.specs.Did.{Did}
+use Rattle.edits.proofs.Outcomes.{first, next, last, answered-not, answered-done}
+use Rattle.edits.specs.Answered.{Answered}
+
+abbrev protecting : Access → ℕ → ℕ → List ℕ → Call
+protecting x a s lent = asking (Protect x a s) [] (length lent)
+
+module _ (x : Access) (a s : ℕ) (lent : List ℕ) {ws : List ℕ} {c : Cache} {rest : List ℕ} (h : Holds ws c rest) where
+  pub protect-words : tooFewWords c (length lent) ≡ true → Answered (step c (protecting x a s lent)) rest ws lent lent (Refused refusal.OrderWords)
+  unfolding refusalOf tests
+  protect-words t = answered-not (protecting x a s lent) lent refusal.OrderWords h (first _ _ _ t)
+
+  module _ (t : tooFewWords c (length lent) ≡ false) where
+    pub protect-address : badAddress a ≡ true → Answered (step c (protecting x a s lent)) rest ws lent lent (Refused refusal.Address)
+    unfolding refusalOf tests
+    protect-address b = answered-not (protecting x a s lent) lent refusal.Address h (next _ _ _ t ∙ first _ _ _ b)
+
+    module _ (b : badAddress a ≡ false) where
+      pub protect-size : badSize s ≡ true → Answered (step c (protecting x a s lent)) rest ws lent lent (Refused refusal.Size)
+      unfolding refusalOf tests
+      protect-size z = answered-not (protecting x a s lent) lent refusal.Size h (next _ _ _ t ∙ next _ _ _ b ∙ first _ _ _ z)
+
+      module _ (z : badSize s ≡ false) where
+        -- the tests that are left
+        then-tested : refusalOf c (protecting x a s lent)
+            ≡ firstOf ((entryTest c a (λ e. forbids (e .hold) x), refusal.Held) ∷ (not (isHere (c .rows) a) && noRow c, refusal.Full) ∷ [])
+        unfolding refusalOf tests
+        then-tested = next _ _ _ t ∙ next _ _ _ b ∙ next _ _ _ z
+
+        -- an entry that is there
+        module _ (e : Entry) (g : get (c .rows) a ≡ some e) where
+          held-test : entryTest c a (λ e. forbids (e .hold) x) ≡ forbids (e .hold) x
+          held-test = ap (passes (λ e. forbids (e .hold) x)) g
+
+          pub protect-held : forbids (e .hold) x ≡ true → Answered (step c (protecting x a s lent)) rest ws lent lent (Refused refusal.Held)
+          protect-held f = answered-not (protecting x a s lent) lent refusal.Held h (then-tested ∙ first _ _ _ (held-test ∙ f))
+
+          pub protect-hit : {out words : List ℕ} {given : ℕ} → forbids (e .hold) x ≡ false → Did (hit x a c) rest out 0 lent words given
+              → Answered (step c (protecting x a s lent)) rest out lent words (Accepted given)
+          unfolding effect
+          protect-hit {out} {words} {given} f d =
+              answered-done c (protecting x a s lent) (then-tested ∙ next _ _ _ (held-test ∙ f) ∙ next _ _ _ (rw g) ∙ last)
+              (subst (λ (t : Bool). Did (if t then hit x a c else missed x a s c) rest out 0 lent words given) (sym (ap (passes (λ e. true)) g)) d)
+
+        -- an address that is not in the cache
+        module _ (n : get (c .rows) a ≡ none) where
+          no-hold : entryTest c a (λ e. forbids (e .hold) x) ≡ false
+          no-hold = ap (passes (λ e. forbids (e .hold) x)) n
+
+          row-test : not (isHere (c .rows) a) && noRow c ≡ noRow c
+          row-test = rw n
+
+          pub protect-full : noRow c ≡ true → Answered (step c (protecting x a s lent)) rest ws lent lent (Refused refusal.Full)
+          protect-full f = answered-not (protecting x a s lent) lent refusal.Full h (then-tested ∙ next _ _ _ no-hold ∙ first _ _ _ (row-test ∙ f))
+
+          pub protect-missed : {out words : List ℕ} {given : ℕ} → noRow c ≡ false → Did (missed x a s c) rest out 0 lent words given
+              → Answered (step c (protecting x a s lent)) rest out lent words (Accepted given)
+          unfolding effect
+          protect-missed f d =
+              answered-done c (protecting x a s lent) (then-tested ∙ next _ _ _ no-hold ∙ next _ _ _ (row-test ∙ f) ∙ last) (rw n d)

@@ -1,0 +1,6 @@
+pub mod Answers
+pub mod Counted
+pub mod Loaded
+pub mod Missed
+pub mod Protected
+pub mod Words

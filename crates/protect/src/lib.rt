@@ -1,0 +1,136 @@
+// Protect: a hit takes the hold, a miss loads the entry; then the access is counted.
+ghost use mathlib.Core.Path.{_≡_};
+ghost use mathlib.Core.Bool.{true, false};
+ghost use mathlib.Core.List.{[]};
+ghost use mathlib.Core.Option.{none};
+ghost use Prim.Native.Nat.{ℕ, _≤_, _+_, _*_};
+ghost use lib.ListN.{length};
+ghost use Rattle.rules.specs.declared.request.Request.the-variants.{Protect};
+ghost use Rattle.rules.specs.Allowed.{Allowed};
+ghost use Rattle.rules.specs.Cache.{start};
+ghost use Rattle.rules.specs.Hosts.{asking};
+ghost use Rattle.rules.specs.Refusals.{badAddress, badSize, tooFewWords};
+ghost use Rattle.rules.specs.Requests.{loaded, step};
+ghost use Rattle.rules.specs.Rows.{get, hasFree};
+ghost use Rattle.layout.specs.Holds.{Good};
+ghost use Rattle.layout.specs.Picture.{cacheIn, restIn};
+ghost use Rattle.room.specs.Did.{Did};
+ghost use Rattle.table.specs.Asked.{GoodRows, RowOf};
+ghost use Rattle.edits.specs.Answered.{Answered};
+use admission::admit;
+use admission::no_row;
+use entries::bad_address;
+use entries::bad_size;
+use entries::forbids;
+use entries::joined;
+use entries::new_entry;
+use entries::protected_for;
+use entries::too_few_words;
+use epoch::count_access;
+use layout::order::order_put;
+use rules::answer::Answer;
+use rules::answer::Refusal;
+use rules::entry::Hold;
+use rules::order::Kind;
+use rules::order::Order;
+use rules::request::Access;
+use table::changes::add_entry;
+use table::header::row_count;
+use table::lookup::Found;
+use table::lookup::entry_of;
+use table::lookup::find;
+use table::touch::touch_entry;
+
+// The load order, and the entry, clean and held.
+fn load(
+    table: &mut [u64],
+    orders: &mut [u64],
+    rows: usize,
+    access: Access,
+    address: u64,
+    size: u64,
+    before: usize,
+) -> usize
+    requires { ⌜ GoodRows (now table) rows × (hasFree (cacheIn (now table) .rows) ≡ true) × (get (cacheIn (now table) .rows) address ≡ none) × (badAddress address ≡ false) × (badSize size ≡ false) × (before * 3 + 3 ≤ length (now orders)) ⌝ }
+    ensures { λ r. ⌜ Did (loaded access address size (start (cacheIn (now (table .entry))))) (restIn (now (table .entry))) (now (table .exit)) before (now (orders .entry)) (now (orders .exit)) r ⌝ }
+{
+    let order = Order {
+        kind: Kind::Load,
+        address,
+        size,
+    };
+    order_put(orders, before, order);
+    let hold = joined(access, Hold::Unheld);
+    add_entry(table, rows, new_entry(address, size, false, hold));
+    before + 1
+}
+
+// An address that is not in the cache.
+fn miss(
+    table: &mut [u64],
+    orders: &mut [u64],
+    rows: usize,
+    access: Access,
+    address: u64,
+    size: u64,
+) -> Answer
+    requires { ⌜ GoodRows (now table) rows × Allowed (cacheIn (now table)) × (get (cacheIn (now table) .rows) address ≡ none) × (tooFewWords (cacheIn (now table)) (length (now orders)) ≡ false) × (badAddress address ≡ false) × (badSize size ≡ false) ⌝ }
+    ensures { λ r. ⌜ Answered (step (cacheIn (now (table .entry))) (asking (Protect access address size) [] (length (now (orders .entry))))) (restIn (now (table .entry))) (now (table .exit)) (now (orders .entry)) (now (orders .exit)) r ⌝ }
+{
+    if no_row(table, rows) {
+        return Answer::Refused(Refusal::Full);
+    }
+    let evicted = admit(table, orders, rows, size);
+    let loaded = load(table, orders, rows, access, address, size, evicted);
+    let given = count_access(table, orders, rows, false, loaded);
+    Answer::Accepted(given as u64)
+}
+
+// The entry in a row, whatever size is named for it.
+fn hit(
+    table: &mut [u64],
+    orders: &mut [u64],
+    rows: usize,
+    row: usize,
+    access: Access,
+    address: u64,
+) -> Answer
+    requires { ⌜ GoodRows (now table) rows × Allowed (cacheIn (now table)) × RowOf (cacheIn (now table) .rows) address row × (tooFewWords (cacheIn (now table)) (length (now orders)) ≡ false) × (badAddress address ≡ false) ⌝ }
+    ensures { λ r. ⌜ ((size : ℕ) → badSize size ≡ false → Answered (step (cacheIn (now (table .entry))) (asking (Protect access address size) [] (length (now (orders .entry))))) (restIn (now (table .entry))) (now (table .exit)) (now (orders .entry)) (now (orders .exit)) r) ⌝ }
+{
+    let e = entry_of(table, rows, row, address);
+    let hold = e.hold;
+    if forbids(hold, access) {
+        return Answer::Refused(Refusal::Held);
+    }
+    touch_entry(table, rows, row, protected_for(access, e));
+    let given = count_access(table, orders, rows, true, 0);
+    Answer::Accepted(given as u64)
+}
+
+pub fn protect(
+    table: &mut [u64],
+    orders: &mut [u64],
+    access: Access,
+    address: u64,
+    size: u64,
+) -> Answer
+    requires { ⌜ Good (now table) × Allowed (cacheIn (now table)) ⌝ }
+    ensures { λ r. ⌜ Answered (step (cacheIn (now (table .entry))) (asking (Protect access address size) [] (length (now (orders .entry))))) (restIn (now (table .entry))) (now (table .exit)) (now (orders .entry)) (now (orders .exit)) r ⌝ }
+{
+    let rows = row_count(table);
+    if too_few_words(rows, orders.len()) {
+        return Answer::Refused(Refusal::OrderWords);
+    }
+    if bad_address(address) {
+        return Answer::Refused(Refusal::Address);
+    }
+    if bad_size(size) {
+        return Answer::Refused(Refusal::Size);
+    }
+    let found = find(table, rows, address);
+    match found {
+        Found::Nothing => miss(table, orders, rows, access, address, size),
+        Found::At { place: _, row } => hit(table, orders, rows, row, access, address),
+    }
+}
