@@ -1,0 +1,9 @@
+pub mod Lent
+pub mod OpenAnswers
+pub mod ReportAnswers
+pub mod StepAnswers
+pub mod Settled
+pub mod Pictured
+pub mod Read
+pub mod Hosts
+pub mod History

@@ -1,0 +1,110 @@
+-- A request on a table that passes leaves a table that passes, and its words picture the cache that the rules give.
+use Prim.Native.Nat.{ℕ}
+use mathlib.Core.Bool.{Bool, true, false, true≢false, _||_}
+use mathlib.Core.List.{List, []}
+use mathlib.Core.Option.{Option, none, some}
+use mathlib.Core.Path.{_≡_, refl, sym, ap, _∙_}
+use lib.Dec.{eqb, leb, ltb}
+use lib.ListN.{length, drop}
+use Rattle.settings.specs.declared.Settings.{Settings}
+use Rattle.settings_words.specs.FloatsFit.{FloatsFit}
+use Rattle.rules.proofs.Allowed.{step-allowed, fresh-allowed}
+use Rattle.rules.proofs.Steps.{failed, stepped}
+use Rattle.rules.proofs.Tests.{or-true}
+use Rattle.rules.specs.Allowed.{Allowed}
+use Rattle.rules.specs.Cache.{Cache, fresh}
+use Rattle.rules.specs.Hosts.{accepted, asking}
+use Rattle.rules.specs.Opening.{refusalOfOpening}
+use Rattle.rules.specs.Limits.{mostRows}
+use Rattle.rules.specs.Requests.{Outcome, step}
+use Rattle.rules.specs.declared.answer.Answer.the-variants.{Accepted, Refused}
+use Rattle.rules.specs.declared.answer.Answer.{Answer}
+use Rattle.rules.specs.declared.answer.Refusal.{Refusal}
+use Rattle.rules.specs.declared.request.Mode.{Mode}
+use Rattle.rules.specs.declared.request.Request.{Request}
+use Rattle.layout.proofs.ReadBack.{cache-back}
+use Rattle.layout.specs.Layout.{layoutWords}
+use Rattle.layout.specs.Picture.{encode, cacheIn}
+use Rattle.judge.proofs.Verdicts.{sound, complete, good}
+use Rattle.judge.specs.Verdict.{judgeWords}
+use Rattle.cache.specs.Hosts.{accepts, FloatsOf}
+use Rattle.cache.specs.Tables.{carriedOut, stepWords, openedWith, openWords}
+use Rattle.cache.proofs.Settled.{step-floats}
+
+-- the words pass, and picture the cache
+pub record Pictures (ws : List ℕ) (c : Cache) : Type 0 where
+  pub passes : judgeWords ws ≡ true
+  pub cache : cacheIn ws ≡ c
+
+pictured : (c : Cache) (rest : List ℕ) → Allowed c → FloatsFit (c .settings) → Pictures (encode c rest) c
+pictured c rest k f = record { passes = complete c rest k f; cache = cache-back c rest (k .rows) (k .entries) (k .sound) f }
+
+-- ---- a request
+
+module _ (ws os list : List ℕ) (r : Request) (v : judgeWords ws ≡ true) where
+  -- the rules' outcome
+  abbrev pub ruled : Outcome
+  ruled = step (cacheIn ws) (asking r list (length os))
+
+  pub carried : stepWords ws os list r ≡ carriedOut (ruled .answer) ruled ws os
+  unfolding stepWords
+  carried = rw v
+
+  answer-of : (a : Answer) (o : Outcome) → carriedOut a o ws os .answer ≡ a
+  answer-of (Accepted n) o = refl
+  answer-of (Refused x) o = refl
+
+  pub same-answer : stepWords ws os list r .answer ≡ ruled .answer
+  same-answer = ap (λ x. x .answer) carried ∙ answer-of (ruled .answer) ruled
+
+  pub accepts-as : accepts (stepWords ws os list r) ≡ accepted ruled
+  accepts-as = ap (λ (a : Answer). accepted (record { answer = a; cache = ruled .cache; orders = ruled .orders })) same-answer
+
+  pub pictures-after : FloatsOf r → Pictures (stepWords ws os list r .table) (ruled .cache)
+  pictures-after f =
+      let k = sound ws v .0 in
+      rw carried
+      (stepped (cacheIn ws) (asking r list (length os))
+      (λ (o : Outcome). Allowed (o .cache) → FloatsFit (o .cache .settings) → Pictures (carriedOut (o .answer) o ws os .table) (o .cache))
+      (λ e i j. pictured _ _ i j)
+      (λ x i j. record { passes = v; cache = refl })
+      (step-allowed (cacheIn ws) (asking r list (length os)) k)
+      (step-floats (cacheIn ws) (asking r list (length os)) (k .sound) (good ws v .steady .floats) f))
+
+  pub pictures-refused : accepts (stepWords ws os list r) ≡ false → Pictures (stepWords ws os list r .table) (ruled .cache)
+  pictures-refused h =
+      rw carried
+      (stepped (cacheIn ws) (asking r list (length os))
+      (λ (o : Outcome). accepted o ≡ false → Pictures (carriedOut (o .answer) o ws os .table) (o .cache))
+      (λ e i. absurd (true≢false i))
+      (λ x i. record { passes = v; cache = refl })
+      (sym accepts-as ∙ h))
+
+-- ---- opening
+
+-- a table that is too short is refused
+short : (n : ℕ) (m : Option Mode) (t : ℕ) (s : Settings) → refusalOfOpening n false m t s ≡ none → ⊥
+unfolding refusalOfOpening
+short n m t s e = true≢false (sym (or-true (eqb n 0 || ltb mostRows n)) ∙ failed _ e .0)
+
+opened-none : (o : Option Refusal) (ws : List ℕ) (n : ℕ) (c : Cache) → openedWith o ws n c .answer ≡ Accepted 0 → o ≡ none
+opened-none none ws n c e = refl
+opened-none (some r) ws n c e = absurd (true≢false (ap (λ (a : Answer). accepted (record { answer = a; cache = c; orders = [] })) (sym e)))
+
+module _ (ws : List ℕ) (n : ℕ) (m : Mode) (t : ℕ) (s : Settings) (f : FloatsFit s) (h : openWords ws n m t s .answer ≡ Accepted 0) where
+  not-refused : refusalOfOpening n (leb (layoutWords n) (length ws)) (some m) t s ≡ none
+  unfolding openWords
+  not-refused = opened-none (refusalOfOpening n (leb (layoutWords n) (length ws)) (some m) t s) ws n (fresh n m t s) h
+
+  -- the table is long enough, and nothing else is refused
+  pub open-allowed : refusalOfOpening n true (some m) t s ≡ none
+  open-allowed = go (leb (layoutWords n) (length ws)) not-refused
+    where
+      go : (b : Bool) → refusalOfOpening n b (some m) t s ≡ none → refusalOfOpening n true (some m) t s ≡ none
+      go true e = e
+      go false e = absurd (short n (some m) t s e)
+
+  pub pictures-fresh : Pictures (openWords ws n m t s .table) (fresh n m t s)
+  unfolding openWords
+  pictures-fresh =
+      rw not-refused (pictured (fresh n m t s) (drop (layoutWords n) ws) (fresh-allowed n m t s open-allowed) f)

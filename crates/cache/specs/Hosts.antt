@@ -1,0 +1,107 @@
+-- A lead and a standby on their tables: the runs that demand 3 speaks of, and the demand, over the entry points on words.
+use Prim.Native.Nat.{ℕ, zero, suc, _+_}
+use mathlib.Core.Path.{_≡_}
+use mathlib.Core.Bool.{Bool, true, false, not, _&&_}
+use mathlib.Core.Option.{Option, none, some}
+use mathlib.Core.List.{List, [], _∷_, _++_}
+use lib.Dec.{eqb, ltb}
+use lib.ListN.{getD, drop}
+use Rattle.settings.specs.declared.Settings.{Settings}
+use Rattle.settings_words.specs.FloatsFit.{FloatsFit}
+use Rattle.rules.specs.declared.answer.Answer.the-variants.{Accepted}
+use Rattle.rules.specs.declared.order.Kind.the-variants.{Write}
+use Rattle.rules.specs.declared.request.Mode.the-variants.{Lead, Standby}
+use Rattle.rules.specs.declared.request.Request.{Request}
+use Rattle.rules.specs.declared.request.Request.the-variants.{Insert, Protect, Release, ReleaseChanged, Pin, Unpin, Resize, Discard, Flush, Sync, Take, Configure}
+use Rattle.rules.specs.Answers.{answerOrders}
+use Rattle.rules.specs.Entries.{if_then_else_}
+use Rattle.rules.specs.Hosts.{isAccepted, Pending, settled, leadHad, standbyHad, sent, heard}
+use Rattle.rules.specs.Ledger.{Ledger, blank, hearList, Shared, Local, Sends}
+use Rattle.layout.specs.Layout.{rowAt, flagOf, kindWord}
+use Rattle.cache.specs.Tables.{Left, stepWords, openWords}
+
+-- ---- what a host reads
+
+abbrev pub accepts : Left → Bool
+accepts x = isAccepted (x .answer)
+
+-- The addresses of the write orders among the first n.
+unfoldable pub writesIn : ℕ → List ℕ → List ℕ
+writesIn zero orders = []
+writesIn (suc n) orders = (if eqb (getD orders 0 0) (kindWord Write) then getD orders 1 0 ∷ [] else []) ++ writesIn n (drop 3 orders)
+
+-- The list that a flush or sync sends.
+abbrev pub listIn : Left → List ℕ
+listIn x = writesIn (answerOrders (x .answer)) (x .orders)
+
+-- Every f64 of a program fits the format: so do those of a configure's settings.
+abbrev pub FloatsOf : Request → Type 0
+FloatsOf (Insert a s) = Unit
+FloatsOf (Protect x a s) = Unit
+FloatsOf (Release a) = Unit
+FloatsOf (ReleaseChanged a s) = Unit
+FloatsOf (Pin a) = Unit
+FloatsOf (Unpin a) = Unit
+FloatsOf (Resize a s) = Unit
+FloatsOf (Discard a) = Unit
+FloatsOf Flush = Unit
+FloatsOf Sync = Unit
+FloatsOf Take = Unit
+FloatsOf (Configure s) = FloatsFit s
+
+-- ---- runs
+
+-- The lead's table, the standby's, the ledger and what is pending after a run. Each request gets its cache's table as the
+-- request before left it, with any order slice and any list. What may come, and when, is as in the rules' own runs: both
+-- get each shared change, and the standby takes each list before the next list or change.
+pub data TableRun (t : ℕ) : List ℕ → List ℕ → Ledger → Pending → Type 0 where
+  opened : (a b : List ℕ) (n m : ℕ) (s u : Settings) → FloatsFit s → FloatsFit u
+      → openWords a n Lead t s .answer ≡ Accepted 0 → openWords b m Standby t u .answer ≡ Accepted 0
+      → TableRun t (openWords a n Lead t s .table) (openWords b m Standby t u .table) blank settled
+  lead-local : {a b : List ℕ} {l : Ledger} {p : Pending} (orders list : List ℕ) (r : Request) → Local r → FloatsOf r
+      → TableRun t a b l p → TableRun t (stepWords a orders list r .table) b l p
+  standby-local : {a b : List ℕ} {l : Ledger} {p : Pending} (orders list : List ℕ) (r : Request) → Local r → FloatsOf r
+      → TableRun t a b l p → TableRun t a (stepWords b orders list r .table) l p
+  lead-refuses : {a b : List ℕ} {l : Ledger} {p : Pending} (orders list : List ℕ) (r : Request) → accepts (stepWords a orders list r) ≡ false
+      → TableRun t a b l p → TableRun t (stepWords a orders list r .table) b l p
+  standby-refuses : {a b : List ℕ} {l : Ledger} {p : Pending} (orders list : List ℕ) (r : Request) → accepts (stepWords b orders list r) ≡ false
+      → TableRun t a b l p → TableRun t a (stepWords b orders list r .table) l p
+  lead-first : {a b : List ℕ} {l : Ledger} {r : Request} (h : Shared r) (orders list : List ℕ)
+      → TableRun t a b l settled → TableRun t (stepWords a orders list r .table) b l (leadHad h (accepts (stepWords a orders list r)))
+  standby-second : {a b : List ℕ} {l : Ledger} {r : Request} (h : Shared r) (orders list : List ℕ) (ok : Bool)
+      → accepts (stepWords b orders list r) ≡ ok
+      → TableRun t a b l (leadHad h ok) → TableRun t a (stepWords b orders list r .table) (heard ok h l) settled
+  standby-first : {a b : List ℕ} {l : Ledger} {r : Request} (h : Shared r) (orders list : List ℕ)
+      → TableRun t a b l settled → TableRun t a (stepWords b orders list r .table) l (standbyHad h (accepts (stepWords b orders list r)))
+  lead-second : {a b : List ℕ} {l : Ledger} {r : Request} (h : Shared r) (orders list : List ℕ) (ok : Bool)
+      → accepts (stepWords a orders list r) ≡ ok
+      → TableRun t a b l (standbyHad h ok) → TableRun t (stepWords a orders list r .table) b (heard ok h l) settled
+  lead-sends : {a b : List ℕ} {l : Ledger} {r : Request} (h : Sends r) (orders list : List ℕ) → accepts (stepWords a orders list r) ≡ true
+      → TableRun t a b l settled → TableRun t (stepWords a orders list r .table) b l (sent (listIn (stepWords a orders list r)))
+  standby-takes : {a b : List ℕ} {l : Ledger} (orders list : List ℕ) → accepts (stepWords b orders list Take) ≡ true
+      → TableRun t a b l (sent list) → TableRun t a (stepWords b orders list Take .table) (hearList list l) settled
+
+-- ---- the demand
+
+-- The size of the dirty record at an address, among n rows from row r on.
+unfoldable pub dirtyIn : ℕ → ℕ → List ℕ → ℕ → Option ℕ
+dirtyIn zero r ws a = none
+dirtyIn (suc n) r ws a =
+    if not (eqb (getD ws (rowAt r + 1) 0) 0) && eqb (getD ws (rowAt r) 0) a
+    then (if flagOf (getD ws (rowAt r + 2) 0) then some (getD ws (rowAt r + 1) 0) else none)
+    else dirtyIn n (suc r) ws a
+
+-- The dirty records in a table's words, and its byte count.
+abbrev pub ledgerIn : List ℕ → Ledger
+ledgerIn ws = record { sizes = dirtyIn (getD ws 1 0) 0 ws; count = getD ws 7 0 }
+
+-- Whether its words say that a list is due.
+abbrev pub dueIn : List ℕ → Bool
+dueIn ws = ltb (getD ws 3 0) (getD ws 7 0)
+
+-- The same dirty records at the same sizes, the same byte count and the same word on whether a list is due, and these
+-- records, sizes and count are what the ledger gives.
+pub record TablesAgree (a b : List ℕ) (l : Ledger) : Type 0 where
+  pub lead : ledgerIn a ≡ l
+  pub standby : ledgerIn b ≡ l
+  pub due : dueIn a ≡ dueIn b

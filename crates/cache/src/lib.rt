@@ -1,0 +1,12 @@
+// The cache on a table that the host lends: open, step and report.
+//
+// Each takes any words. A table is judged before anything else is done with it, but for the old
+// words of one that is opened.
+mod opening;
+mod reporting;
+mod stepping;
+
+pub use opening::open;
+pub use reporting::Reported;
+pub use reporting::report;
+pub use stepping::step;
