@@ -50,13 +50,13 @@ module _ {t : ℕ} {a b : List ℕ} {l : Ledger} {p : Pending} (f : Follows t a 
   standby-goes {m = m} {q} k r = record { lead = f .lead; standby = k .passes; run = subst (λ (c : Cache). Run t (cacheIn a) c m q) (sym (k .cache)) r }
 
 -- a shared change has no settings
-shared-floats : {r : Request} → Shared r → FloatsOf r
+pub shared-floats : {r : Request} → Shared r → FloatsOf r
 shared-floats (Shared.insert a s) = tt
 shared-floats (Shared.changed a s) = tt
 shared-floats (Shared.resize a s) = tt
 shared-floats (Shared.discard a) = tt
 
-sends-floats : {r : Request} → Sends r → FloatsOf r
+pub sends-floats : {r : Request} → Sends r → FloatsOf r
 sends-floats Sends.flush = tt
 sends-floats Sends.sync = tt
 

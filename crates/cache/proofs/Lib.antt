@@ -7,3 +7,4 @@ pub mod Pictured
 pub mod Read
 pub mod Hosts
 pub mod History
+pub mod Runs

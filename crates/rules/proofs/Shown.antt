@@ -13,14 +13,14 @@ use Rattle.rules.proofs.Hosts.{demand3}
 use Rattle.rules.proofs.Cases.{computing}
 
 -- a run in which nothing is pending
-record Played : Type 0 where
-  lead : Cache
-  standby : Cache
-  ledger : Ledger
-  run : Run 1000 lead standby ledger settled
+pub record Played : Type 0 where
+  pub lead : Cache
+  pub standby : Cache
+  pub ledger : Ledger
+  pub run : Run 1000 lead standby ledger settled
 
 -- changes that both accept, to either first
-both-accept : Played
+unfoldable pub both-accept : Played
 unfolding computing
 both-accept = record {
   lead = _;
@@ -35,7 +35,7 @@ both-accept = record {
 }
 
 -- changes that both refuse, to either first: an address that is there, and one that is not
-both-refuse : Played
+unfoldable pub both-refuse : Played
 unfolding computing both-accept
 both-refuse = record {
   lead = _;
@@ -50,7 +50,7 @@ both-refuse = record {
 }
 
 -- local requests of each, and other refusals: a list for the lead, a flush of the standby
-locals : Played
+unfoldable pub locals : Played
 unfolding computing both-refuse
 locals = record {
   lead = _;
@@ -71,7 +71,7 @@ locals = record {
 }
 
 -- a resize, a changed release, a discard, a flush and a sync; between a list and its taking, and between a change's two halves, local requests
-lists : Played
+unfoldable pub lists : Played
 unfolding computing locals
 lists = record {
   lead = _;
