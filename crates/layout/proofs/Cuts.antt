@@ -47,7 +47,7 @@ run-cons : (n x : ℕ) (l : List ℕ) → run (suc n) (x ∷ l) ≡ x ∷ run n 
 unfolding run
 run-cons n x l = let e : suc n - suc (length l) ≡ n - length l = omega arith in rw e
 
-snoc-ones : (m : ℕ) → replicate m ones ++ ones ∷ [] ≡ replicate (suc m) ones
+pub snoc-ones : (m : ℕ) → replicate m ones ++ ones ∷ [] ≡ replicate (suc m) ones
 snoc-ones zero = refl
 snoc-ones (suc m) = ap (λ (x : List ℕ). ones ∷ x) (snoc-ones m)
 

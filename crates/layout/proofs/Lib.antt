@@ -8,5 +8,6 @@ pub mod Rows
 pub mod Cuts
 pub mod Parts
 pub mod Encoded
+pub mod Shorter
 pub mod Held
 pub mod Ordered

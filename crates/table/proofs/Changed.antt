@@ -6,7 +6,7 @@ use mathlib.Core.Option.{Option, none, some}
 use mathlib.Core.Path.{_≡_, refl, sym, ap, ap₂, _∙_}
 use native.Mathlib.Omega.{arith}
 use lib.Dec.{eqb}
-use lib.ListN.{length}
+use lib.ListN.{length, getD}
 use borrow.Author.Tests.{eqb-true, eq-eqb}
 use Rattle.rules.specs.declared.entry.Entry.{Entry}
 use Rattle.rules.specs.declared.entry.Row.the-variants.{Free, Used}
@@ -31,6 +31,7 @@ use Rattle.layout.proofs.Encoded.{amend-encode, off-encode, on-encode, remove-e
 use Rattle.layout.proofs.Held.{holds}
 use Rattle.layout.proofs.Numbers.{stands, here-of, used-most, pigeon}
 use Rattle.layout.proofs.Rows.{number-amend}
+use Rattle.layout.proofs.Shorter.{shorter-recency, shorter-addresses}
 use Rattle.table.specs.Asked.{PlaceIn}
 use Rattle.table.specs.Told.{dropped, become, unlisted, putOn}
 
@@ -91,6 +92,22 @@ module _ {ws : List ℕ} {c : Cache} {rest : List ℕ} (h : Holds ws c rest) whe
   -- an address that is not in the list
   pub off-none : (a : ℕ) → elem a (c .recency) ≡ false → ws ≡ encode (unlisted a c) rest
   off-none a n = h .words ∙ ap (λ (l : List ℕ). encode (withRows (c .rows) l c) rest) (sym (strike-absent a (c .recency) n))
+
+  -- ---- a word out of a run's row numbers is a word out of the run
+
+  pub cut-listed : (pos : ℕ) → pos < length (c .recency)
+      → runCut (recencyAt (length (c .rows))) (length (c .recency)) pos ws ≡ runCut (recencyAt (length (c .rows))) (length (c .rows)) pos ws
+  cut-listed pos l = rw (h .words) (shorter-recency c rest pos (h .listed) l)
+
+  pub cut-both : (pos place : ℕ) → pos < length (c .recency) → place < length (addresses (c .rows))
+      → runCut (addressesAt (length (c .rows))) (length (addresses (c .rows))) place (runCut (recencyAt (length (c .rows))) (length (c .recency)) pos ws)
+      ≡ runCut (addressesAt (length (c .rows))) (length (c .rows)) place (runCut (recencyAt (length (c .rows))) (length (c .rows)) pos ws)
+  cut-both pos place l q =
+      let a = getD (c .recency) pos 0 in
+      let p : PlaceIn (c .recency) a pos = record { low = l; same = refl } in
+      let short = h .listed in
+      let less = off-length a pos p in
+      rw (cut-listed pos l, off-words a pos p) (shorter-addresses (unlisted a c) rest place (omega arith) q)
 
   -- ---- an entry takes new particulars
 

@@ -27,6 +27,7 @@ use Rattle.layout.proofs.Encoded.{amend-encode, off-encode, on-encode}
 use Rattle.layout.proofs.Held.{holds}
 use Rattle.layout.proofs.Numbers.{stands}
 use Rattle.layout.proofs.Rows.{amend-row, number-amend}
+use Rattle.layout.proofs.Shorter.{shorter-recency}
 use Rattle.table.specs.Told.{become, turned}
 use Rattle.table.proofs.Changed.{steady-with, fit-of}
 
@@ -64,7 +65,7 @@ tail-same (a ∷ l) h = moves.turned a l
 
 module _ {ws : List ℕ} {c : Cache} {rest : List ℕ} (h : Holds ws c rest) (some-listed : 0 < length (c .recency)) where
   pub turn-holds : (e : Entry) (n : ℕ) → get (c .rows) (getD (c .recency) 0 0) ≡ some e → n ≡ length (c .recency)
-      → Holds (set (runCut (recencyAt (length (c .rows))) (length (c .rows)) 0 (putRow (rowNumber (c .rows) (getD (c .recency) 0 0)) (Used (cleaned e)) ws)) (recencyAt (length (c .rows)) + (n - 1)) (rowNumber (c .rows) (getD (c .recency) 0 0)))
+      → Holds (set (runCut (recencyAt (length (c .rows))) n 0 (putRow (rowNumber (c .rows) (getD (c .recency) 0 0)) (Used (cleaned e)) ws)) (recencyAt (length (c .rows)) + (n - 1)) (rowNumber (c .rows) (getD (c .recency) 0 0)))
       (turned c) rest
   turn-holds e n g q =
       let a = getD (c .recency) 0 0 in
@@ -79,10 +80,10 @@ module _ {ws : List ℕ} {c : Cache} {rest : List ℕ} (h : Holds ws c rest) (so
       let once = h .steady .sound .once in
       let m : n - 1 ≡ length (drop 1 (c .recency)) = omega arith in
       holds
-      (ap (λ (x : List ℕ). set (runCut (recencyAt k) k 0 (putRow r (Used (cleaned e)) x)) (recencyAt k + (n - 1)) r) (h .words)
-      ∙ ap (λ (x : List ℕ). set (runCut (recencyAt k) k 0 x) (recencyAt k + (n - 1)) r) (amend-encode c rest a cleaned (λ x. refl) e (h .steady .sound .distinct) g)
-      ∙ ap (λ (i : ℕ). set (runCut (recencyAt i) i 0 (encode d rest)) (recencyAt k + (n - 1)) r) (sym la)
-      ∙ ap (λ (x : List ℕ). set x (recencyAt k + (n - 1)) r) (off-encode d rest 0 (omega arith) once some-listed ∙ ap (λ (l : List ℕ). encode (withRows rows l c) rest) (tail-cut (c .recency) once some-listed))
+      (ap (λ (x : List ℕ). set (runCut (recencyAt k) n 0 (putRow r (Used (cleaned e)) x)) (recencyAt k + (n - 1)) r) (h .words)
+      ∙ ap (λ (x : List ℕ). set (runCut (recencyAt k) n 0 x) (recencyAt k + (n - 1)) r) (amend-encode c rest a cleaned (λ x. refl) e (h .steady .sound .distinct) g)
+      ∙ ap₂ (λ (i j : ℕ). set (runCut (recencyAt i) j 0 (encode d rest)) (recencyAt k + (n - 1)) r) (sym la) q
+      ∙ ap (λ (x : List ℕ). set x (recencyAt k + (n - 1)) r) (shorter-recency d rest 0 (omega arith) some-listed ∙ off-encode d rest 0 (omega arith) once some-listed ∙ ap (λ (l : List ℕ). encode (withRows rows l c) rest) (tail-cut (c .recency) once some-listed))
       ∙ ap₂ (λ (i j : ℕ). set (encode b rest) (recencyAt i + j) r) (sym la) m
       ∙ ap (λ (j : ℕ). set (encode b rest) (recencyAt (length (b .rows)) + length (b .recency)) j) (sym (number-amend a cleaned (λ x. refl) (c .rows) a))
       ∙ on-encode b rest a (omega arith))

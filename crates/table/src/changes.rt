@@ -1,16 +1,21 @@
 // An entry set, dropped, added.
 ghost use mathlib.Core.Path.{_≡_};
+ghost use Prim.Native.Nat.{_<_};
+ghost use lib.ListN.{length};
 ghost use Rattle.rules.specs.Allowed.{EntryAllowed};
 ghost use Rattle.rules.specs.Cache.{amendAt};
 ghost use Rattle.rules.specs.Entries.{isListed};
 ghost use Rattle.rules.specs.Rows.{get, passes};
-ghost use Rattle.layout.specs.Picture.{cacheIn, restIn};
+ghost use Rattle.layout.specs.Layout.{recencyAt, addressesAt};
+ghost use Rattle.layout.specs.Leaves.{runCut};
+ghost use Rattle.layout.specs.Picture.{addresses, cacheIn, restIn};
 ghost use Rattle.layout.specs.Holds.{Holds};
 ghost use Rattle.table.specs.Asked.{GoodRows, RowOf, DropAt, Addable};
 ghost use Rattle.table.specs.Told.{dropped, added, become, Placed};
 use crate::listing::list_on;
 use crate::lookup::place_among;
 use crate::runs::listed_len;
+use crate::runs::used_len;
 use crate::search::free_row;
 use entries::is_listed;
 use layout::HEADER;
@@ -29,6 +34,18 @@ pub fn set_entry(table: &mut [u64], rows: usize, row: usize, e: Entry)
     put_entry(table, row, e);
 }
 
+// Takes a word out of the recency run and one out of the address run; the words past their lengths are not touched.
+fn cut_runs(table: &mut [u64], rows: usize, pos: usize, place: usize)
+    requires { ⌜ GoodRows (now table) rows × (pos < length (cacheIn (now table) .recency)) × (place < length (addresses (cacheIn (now table) .rows))) ⌝ }
+    ensures { λ _. ⌜ now (table .exit) ≡ runCut (addressesAt rows) rows place (runCut (recencyAt rows) rows pos (now (table .entry))) ⌝ }
+{
+    let listed = listed_len(table, rows);
+    let used = used_len(table, rows);
+    let recency = HEADER + rows * WIDTH;
+    run_cut(table, recency, listed, pos);
+    run_cut(table, recency + rows, used, place);
+}
+
 // The entry at an address goes, from its place in the recency list, its place among the addresses, and its row.
 pub fn drop_entry(
     table: &mut [u64],
@@ -41,9 +58,7 @@ pub fn drop_entry(
     requires { ⌜ GoodRows (now table) rows × DropAt (cacheIn (now table)) address pos place row ⌝ }
     ensures { λ _. ⌜ Holds (now (table .exit)) (dropped address (cacheIn (now (table .entry)))) (restIn (now (table .entry))) ⌝ }
 {
-    let recency = HEADER + rows * WIDTH;
-    run_cut(table, recency, rows, pos);
-    run_cut(table, recency + rows, rows, place);
+    cut_runs(table, rows, pos, place);
     clear_row(table, row);
 }
 

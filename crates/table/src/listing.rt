@@ -21,7 +21,7 @@ pub fn list_off(table: &mut [u64], rows: usize, row: usize, address: u64, was: b
     let n = listed_len(table, rows);
     if was {
         let pos = recency_place(table, rows, row, address);
-        run_cut(table, HEADER + rows * WIDTH, rows, pos);
+        run_cut(table, HEADER + rows * WIDTH, n, pos);
         return n - 1;
     }
     n

@@ -103,7 +103,7 @@ fn turn_row(table: &mut [u64], rows: usize, n: usize, row: usize, e: Entry)
     let clean = cleaned(e);
     put_entry(table, row, clean);
     let recency = HEADER + rows * WIDTH;
-    run_cut(table, recency, rows, 0);
+    run_cut(table, recency, n, 0);
     table[recency + (n - 1)] = row as u64;
 }
 

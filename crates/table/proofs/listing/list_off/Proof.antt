@@ -4,7 +4,7 @@ use native.Mathlib.Omega.{arith}
 use lib.ListN.{length}
 use borrow.Author.Needs.{needs}
 use Rattle.rules.proofs.Lists.{strike-absent}
-use Rattle.table.proofs.Changed.{off-words, off-length, off-none}
+use Rattle.table.proofs.Changed.{off-words, off-length, off-none, cut-listed}
 use Rattle.table.proofs.listing.list_off.Statement.{statement}
 use Rattle.table.proofs.listing.list_off.Tie as tie
 
@@ -32,9 +32,11 @@ same-length c = search needs
 returns : tie.Need-returns
 returns c =
     let g = c .before .before .before .before .before .before .before .before .before .before .pre .0 in
+    let n = c .before .before .before .before .before .before .before .listed-len .ensures in
+    let p = c .before .before .before .before .recency-place .ensures in
     record {
-      words = rw (c .before .before .run-cut .ensures, g .size) (off-words (g .good) _ _ (c .before .before .before .before .recency-place .ensures));
-      listed = omega (arith, off-length (g .good) _ _ (c .before .before .before .before .recency-place .ensures), c .before .before .before .before .before .before .before .listed-len .ensures);
+      words = rw (c .before .before .run-cut .ensures, n, g .size) (cut-listed (g .good) _ (p .low) ∙ off-words (g .good) _ _ p);
+      listed = omega (arith, off-length (g .good) _ _ p);
     }
 
 same-length-2 : tie.Need-same-length-2
