@@ -1,0 +1,98 @@
+-- The three functions over numbers: what each answers and leaves, on any input.
+use Prim.Native.Nat.{ℕ}
+use mathlib.Core.List.{List}
+use mathlib.Core.Option.{Option, Option·getD}
+use lib.Dec.{leb}
+use lib.ListN.{length}
+use Rattle.settings.specs.declared.Settings.{Settings}
+use Rattle.rules.specs.Answers.{answerNumber, answerField, answerOrders}
+use Rattle.rules.specs.Cache.{fresh}
+use Rattle.rules.specs.Entries.{if_then_else_}
+use Rattle.rules.specs.Opening.{refusalOfOpening}
+use Rattle.rules.specs.declared.answer.Answer.{Answer}
+use Rattle.rules.specs.declared.answer.Answer.the-variants.{Refused}
+use Rattle.rules.specs.declared.answer.Refusal.the-variants as refusal
+use Rattle.rules.specs.declared.request.Mode.{Mode}
+use Rattle.rules.specs.declared.request.Mode.the-variants.{Alone}
+use Rattle.layout.specs.Layout.{flagWord, layoutWords}
+use Rattle.judge.specs.Verdict.{judgeWords}
+use Rattle.cache.specs.Tables.{Left, left, stepWords, Opened, openedWith, reportWords}
+use Rattle.cache.specs.declared.reporting.Reported.{Reported}
+use Rattle.speldervacht.specs.Meanings.{modeOfRaw, settingsOfRaw, askedOfRaw}
+use Rattle.speldervacht.specs.declared.raw.RawAnswer.{RawAnswer}
+use Rattle.speldervacht.specs.declared.raw.RawFigures.{RawFigures}
+use Rattle.speldervacht.specs.declared.raw.RawRequest.{RawRequest}
+use Rattle.speldervacht.specs.declared.raw.RawSettings.{RawSettings}
+use Rattle.speldervacht.specs.declared.request.Asked.{Asked}
+use Rattle.speldervacht.specs.declared.request.Asked.the-variants.{Known, Unknown}
+
+-- An answer in document 01's numbering.
+abbrev pub answerNumbers : Answer → RawAnswer
+answerNumbers a = record { number = answerNumber a; field = answerField a; orders = answerOrders a }
+
+-- ---- opening
+
+-- The answer, and the words of the table after it.
+pub record AfterOpen : Type 0 where
+  pub answer : RawAnswer
+  pub table : List ℕ
+
+abbrev pub afterOpen : RawAnswer → List ℕ → AfterOpen
+afterOpen a table = record { answer = a; table = table }
+
+-- As `openWords` of crate cache, but there may be no mode: then the rules refuse, and the fresh cache is not written.
+unfoldable pub openIn : List ℕ → ℕ → Option Mode → ℕ → Settings → Opened
+openIn table rows mode threshold s =
+    openedWith (refusalOfOpening rows (leb (layoutWords rows) (length table)) mode threshold s) table rows
+    (fresh rows (Option·getD mode Alone) threshold s)
+
+abbrev pub openedNumbers : Opened → AfterOpen
+openedNumbers x = afterOpen (answerNumbers (x .answer)) (x .table)
+
+unfoldable pub openNumbers : List ℕ → ℕ → ℕ → ℕ → RawSettings → AfterOpen
+openNumbers table rows mode threshold w = openedNumbers (openIn table rows (modeOfRaw mode) threshold (settingsOfRaw w))
+
+-- ---- a request
+
+-- The answer, and the words of the table and of the order slice after it.
+pub record AfterStep : Type 0 where
+  pub answer : RawAnswer
+  pub table : List ℕ
+  pub orders : List ℕ
+
+abbrev pub afterStep : RawAnswer → List ℕ → List ℕ → AfterStep
+afterStep a table orders = record { answer = a; table = table; orders = orders }
+
+-- A request of no known kind is meant for no mode: 5, or 1 if the words picture no cache.
+abbrev pub unknownRefusal : List ℕ → Answer
+unknownRefusal table = Refused (if judgeWords table then refusal.Mode else refusal.Table)
+
+-- By `stepWords` of crate cache; a request of no known kind changes no word.
+abbrev pub stepAsked : List ℕ → List ℕ → List ℕ → Asked → Left
+stepAsked table orders list Unknown = left (unknownRefusal table) table orders
+stepAsked table orders list (Known r) = stepWords table orders list r
+
+abbrev pub leftNumbers : Left → AfterStep
+leftNumbers x = afterStep (answerNumbers (x .answer)) (x .table) (x .orders)
+
+unfoldable pub stepNumbers : List ℕ → List ℕ → List ℕ → RawRequest → AfterStep
+stepNumbers table orders list w = leftNumbers (stepAsked table orders list (askedOfRaw w))
+
+-- ---- the report
+
+-- 0 and the figures, or 1 and zeros. Due is 1 if a list is due, else 0.
+abbrev pub figureNumbers : Reported → RawFigures
+figureNumbers x = record {
+  number = answerNumber (x .answer);
+  held = x .report .held;
+  dirty = x .report .dirty;
+  entries = x .report .entries;
+  maximum = x .report .maximum;
+  clean = x .report .clean;
+  count = x .report .count;
+  due = flagWord (x .report .due);
+  totals = x .report .totals;
+}
+
+unfoldable pub reportNumbers : List ℕ → RawFigures
+reportNumbers table = figureNumbers (reportWords table)

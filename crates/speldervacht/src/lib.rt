@@ -1,0 +1,96 @@
+// The cache for C: three functions, which include/speldervacht.h declares and explains.
+//
+// The host lends the table, the words for orders and the list, each as a pointer and a length. All
+// else is numbers and structs of numbers. Each function answers whatever the numbers and words are.
+//
+//     raw        the structs
+//     setting    the settings that numbers stand for
+//     request    the request that numbers stand for
+//     answer     an answer as numbers
+//     figures    a report as numbers
+ghost use mathlib.Core.Path.{_≡_};
+ghost use Rattle.cache.specs.Tables.{opened};
+ghost use Rattle.speldervacht.specs.Meanings.{modeOfRaw};
+ghost use Rattle.speldervacht.specs.Numbers.{openIn, afterOpen, openNumbers, unknownRefusal, afterStep, stepNumbers, reportNumbers};
+
+mod answer;
+mod figures;
+mod raw;
+mod request;
+mod setting;
+
+use answer::answer_of;
+use figures::figures_of;
+use judge::judge;
+use raw::RawAnswer;
+use raw::RawFigures;
+use raw::RawRequest;
+use raw::RawSettings;
+use request::Asked;
+use request::request_of;
+use rules::answer::Answer;
+use rules::answer::Refusal;
+use rules::request::Mode;
+use setting::settings_of;
+use settings::Settings;
+
+// Opens by the mode's number: 0 alone, 1 lead, 2 standby. An unknown mode is refused as a threshold
+// of 0 is: 5, unless the rows or the table are at fault.
+fn open_in(table: &mut [u64], rows: u64, mode: u64, threshold: u64, s: Settings) -> Answer
+    ensures { λ r. ⌜ opened r (now (table .exit)) ≡ openIn (now (table .entry)) rows (modeOfRaw mode) threshold s ⌝ }
+{
+    match mode {
+        0 => cache::open(table, rows, Mode::Alone, threshold, s),
+        1 => cache::open(table, rows, Mode::Lead, threshold, s),
+        2 => cache::open(table, rows, Mode::Standby, threshold, s),
+        _ => cache::open(table, rows, Mode::Alone, 0, s),
+    }
+}
+
+// Opens a fresh cache in the table.
+#[no_mangle]
+pub extern "C" fn speldervacht_open(
+    table: &mut [u64],
+    rows: u64,
+    mode: u64,
+    threshold: u64,
+    settings: RawSettings,
+) -> RawAnswer
+    ensures { λ r. ⌜ afterOpen r (now (table .exit)) ≡ openNumbers (now (table .entry)) rows mode threshold settings ⌝ }
+{
+    answer_of(open_in(table, rows, mode, threshold, settings_of(settings)))
+}
+
+// A request of no known kind: 1 if the table pictures no cache, else 5.
+fn refuse_unknown(table: &[u64]) -> Answer
+    ensures { λ r. ⌜ r ≡ unknownRefusal (now (table .entry)) ⌝ }
+{
+    if judge(table) {
+        return Answer::Refused(Refusal::Mode);
+    }
+    Answer::Refused(Refusal::Table)
+}
+
+// Does one request on the cache in the table.
+#[no_mangle]
+pub extern "C" fn speldervacht_step(
+    table: &mut [u64],
+    orders: &mut [u64],
+    list: &[u64],
+    request: RawRequest,
+) -> RawAnswer
+    ensures { λ r. ⌜ afterStep r (now (table .exit)) (now (orders .exit)) ≡ stepNumbers (now (table .entry)) (now (orders .entry)) (now (list .entry)) request ⌝ }
+{
+    match request_of(request) {
+        Asked::Known(known) => answer_of(cache::step(table, orders, list, known)),
+        Asked::Unknown => answer_of(refuse_unknown(table)),
+    }
+}
+
+// Tells the figures of the cache in the table.
+#[no_mangle]
+pub extern "C" fn speldervacht_report(table: &[u64]) -> RawFigures
+    ensures { λ r. ⌜ r ≡ reportNumbers (now (table .entry)) ⌝ }
+{
+    figures_of(cache::report(table))
+}
