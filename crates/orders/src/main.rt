@@ -1,0 +1,4 @@
+// The program `orders` on case P1.
+fn main() {
+    shell::serve();
+}

@@ -1,0 +1,4 @@
+// The program `orders` on an empty line: the lines after it are not run.
+fn main() {
+    shell::serve();
+}

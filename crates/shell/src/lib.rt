@@ -1,0 +1,45 @@
+// The program `orders`: reads `insert ADDRESS SIZE` lines from standard input, and prints what a
+// cache in the small setup orders for each.
+//
+// The input is read in pieces. The lines that are whole are run, the unfinished one is moved to the
+// buffer's front, and the next piece goes behind it. A line that fills the buffer is a bad line.
+ghost use mathlib.Core.Path.{_≡_};
+ghost use mathlib.Core.List.{[]};
+ghost use Rattle.cache.specs.Tables.{stepWords};
+
+mod input;
+pub mod print;
+pub mod setup;
+
+use rules::answer::Answer;
+use rules::request::Mode;
+use rules::request::Request;
+use setup::ORDER_WORDS;
+use setup::Orders;
+use setup::ROWS;
+use setup::TABLE_WORDS;
+use setup::THRESHOLD;
+use setup::Table;
+use setup::small;
+
+// Does a request that has no list, and prints what it gives.
+pub fn ask(table: &mut Table, orders: &mut Orders, request: Request)
+    ensures { λ _. ⌜ now (table .exit) ≡ stepWords (now (table .entry)) (now (orders .entry)) [] request .table ⌝ }
+    ensures { λ _. ⌜ now (orders .exit) ≡ stepWords (now (table .entry)) (now (orders .entry)) [] request .orders ⌝ }
+{
+    let none = [0u64; 0];
+    let answer = cache::step(table, orders, &none, request);
+    print::answer(orders, answer);
+}
+
+// Opens the small setup, and runs the input.
+pub fn serve() {
+    let mut table = [0u64; TABLE_WORDS];
+    let mut orders = [0u64; ORDER_WORDS];
+    let mut bytes = io::large_buffer();
+    let answer = cache::open(&mut table, ROWS, Mode::Alone, THRESHOLD, small());
+    match answer {
+        Answer::Accepted(_) => input::run(&mut table, &mut orders, &mut bytes),
+        Answer::Refused(r) => print::refusal(r),
+    }
+}
