@@ -1,0 +1,399 @@
+//! Two hosts of one world: a lead and a standby, each with its cache and its copy of hot records,
+//! and the world as a file of records.
+//!
+//!     cargo run --release --example host [SEED [STEPS [FOLDER]]]
+//!
+//! The hosts play at random: records are created, changed, read, pinned and discarded, lists are sent
+//! and taken, the world moves from one host to the other, and now and then the lead is lost. After
+//! every step each record of the world is looked for: it is in the file as it should be, or it is
+//! dirty in the memory of both hosts.
+
+use speldervacht::{
+    open, order_words, report, step, table_words, Decrease, Flash, Increase, Mode, OrderKind, Refusal, Request,
+    Settings,
+};
+use std::collections::{BTreeMap, BTreeSet};
+use std::error::Error;
+use std::fs::{File, OpenOptions};
+use std::os::unix::fs::FileExt;
+use std::path::PathBuf;
+
+const ROWS: usize = 32;
+const THRESHOLD: u64 = 4_096;
+/// Places in the world's file, and the bytes of each.
+const SLOTS: u64 = 96;
+const SLOT_BYTES: u64 = 1_024;
+const MOST_PINS: usize = 4;
+
+fn settings() -> Settings {
+    Settings {
+        initial_size: Some(8_192),
+        maximum_size: 16_384,
+        minimum_size: 4_096,
+        epoch_length: 100,
+        increase: Increase::Threshold { lower: 0.5, multiplier: 1.5 },
+        increase_cap: None,
+        flash: Flash::On { multiple: 1.0, threshold: 0.1 },
+        decrease: Decrease::AgeOutWithThreshold { upper: 0.6, epochs: 2, reserve: 0.1 },
+        ..Settings::default()
+    }
+}
+
+// ---- the world
+
+/// Records by address, which is a place in the file.
+struct World {
+    file: File,
+}
+
+impl World {
+    fn read(&self, address: u64, size: u64) -> std::io::Result<Vec<u8>> {
+        let mut record = vec![0; size as usize];
+        self.file.read_exact_at(&mut record, address * SLOT_BYTES)?;
+        Ok(record)
+    }
+
+    fn write(&self, address: u64, record: &[u8]) -> std::io::Result<()> {
+        self.file.write_all_at(record, address * SLOT_BYTES)
+    }
+}
+
+// ---- a host
+
+struct Host {
+    name: &'static str,
+    table: Vec<u64>,
+    orders: Vec<u64>,
+    /// The records that the cache has, and which of them are dirty or pinned.
+    memory: BTreeMap<u64, Vec<u8>>,
+    dirty: BTreeSet<u64>,
+    pinned: BTreeSet<u64>,
+    writes: u64,
+    loads: u64,
+    evictions: u64,
+}
+
+impl Host {
+    fn new(name: &'static str, mode: Mode) -> Result<Host, Refusal> {
+        let mut host = Host {
+            name,
+            table: vec![0; table_words(ROWS)],
+            orders: vec![0; order_words(ROWS)],
+            memory: BTreeMap::new(),
+            dirty: BTreeSet::new(),
+            pinned: BTreeSet::new(),
+            writes: 0,
+            loads: 0,
+            evictions: 0,
+        };
+        host.open(mode)?;
+        Ok(host)
+    }
+
+    /// A fresh cache, and nothing in memory.
+    fn open(&mut self, mode: Mode) -> Result<(), Refusal> {
+        self.memory.clear();
+        self.dirty.clear();
+        self.pinned.clear();
+        open(&mut self.table, ROWS, mode, THRESHOLD, &settings())
+    }
+
+    /// Does a request and carries out its orders. The addresses written are the answer.
+    fn ask(&mut self, world: &World, request: &Request) -> Result<Vec<u64>, Box<dyn Error>> {
+        let mut written = Vec::new();
+        for order in step(&mut self.table, &mut self.orders, request)? {
+            match order.kind {
+                OrderKind::Write => {
+                    let record = &self.memory[&order.address];
+                    assert_eq!(record.len() as u64, order.size, "{}: {order}", self.name);
+                    world.write(order.address, record)?;
+                    self.dirty.remove(&order.address);
+                    self.writes += 1;
+                    written.push(order.address);
+                }
+                OrderKind::Evict => {
+                    self.memory.remove(&order.address);
+                    self.evictions += 1;
+                }
+                OrderKind::Load => {
+                    self.memory.insert(order.address, world.read(order.address, order.size)?);
+                    self.loads += 1;
+                }
+            }
+        }
+        Ok(written)
+    }
+
+    /// Whether a row can be given whatever comes next: one entry more that can't be evicted fits.
+    fn has_room(&self) -> bool {
+        self.dirty.union(&self.pinned).count() + 2 <= ROWS
+    }
+}
+
+// ---- the play
+
+#[derive(Default)]
+struct Story {
+    created: u64,
+    changed: u64,
+    read: u64,
+    pinned: u64,
+    discarded: u64,
+    lists: u64,
+    longest_list: usize,
+    moves: u64,
+    leads_lost: u64,
+    rescued: u64,
+    most_dirty: u64,
+    least_maximum: u64,
+    most_maximum: u64,
+}
+
+struct Play {
+    world: World,
+    /// What every record should be.
+    truth: BTreeMap<u64, Vec<u8>>,
+    lead: Host,
+    standby: Host,
+    random: u64,
+    story: Story,
+}
+
+impl Play {
+    fn below(&mut self, n: u64) -> u64 {
+        self.random ^= self.random << 13;
+        self.random ^= self.random >> 7;
+        self.random ^= self.random << 17;
+        (self.random.wrapping_mul(0x2545_f491_4f6c_dd1d) >> 11) % n
+    }
+
+    fn contents(&mut self) -> Vec<u8> {
+        let size = if self.below(10) == 0 { 1 + self.below(SLOT_BYTES) } else { 1 + self.below(400) };
+        (0..size).map(|_| self.below(256) as u8).collect()
+    }
+
+    /// A record of the world, if there is any.
+    fn some_record(&mut self) -> Option<u64> {
+        // Half of the time one of a few that are used often.
+        let few = if self.below(2) == 0 { 12 } else { self.truth.len() as u64 };
+        let many = few.min(self.truth.len() as u64);
+        (many > 0).then(|| self.below(many)).and_then(|n| self.truth.keys().nth(n as usize).copied())
+    }
+
+    /// A change that both hosts get.
+    fn both(&mut self, request: Request) -> Result<(), Box<dyn Error>> {
+        self.lead.ask(&self.world, &request)?;
+        self.standby.ask(&self.world, &request)?;
+        Ok(())
+    }
+
+    /// A flush or a sync of the lead, whose list the standby takes.
+    fn send_list(&mut self, request: Request) -> Result<(), Box<dyn Error>> {
+        let list = self.lead.ask(&self.world, &request)?;
+        self.standby.ask(&self.world, &Request::Take { list: &list })?;
+        for address in &list {
+            self.standby.dirty.remove(address);
+        }
+        self.story.lists += 1;
+        self.story.longest_list = self.story.longest_list.max(list.len());
+        Ok(())
+    }
+
+    fn create(&mut self) -> Result<(), Box<dyn Error>> {
+        let address = self.below(SLOTS);
+        if self.truth.contains_key(&address) {
+            return Ok(());
+        }
+        let record = self.contents();
+        self.insert(address, record)?;
+        self.story.created += 1;
+        Ok(())
+    }
+
+    fn insert(&mut self, address: u64, record: Vec<u8>) -> Result<(), Box<dyn Error>> {
+        self.both(Request::Insert { address, size: record.len() as u64 })?;
+        for host in [&mut self.lead, &mut self.standby] {
+            host.memory.insert(address, record.clone());
+            host.dirty.insert(address);
+        }
+        self.truth.insert(address, record);
+        Ok(())
+    }
+
+    fn change(&mut self) -> Result<(), Box<dyn Error>> {
+        let Some(address) = self.some_record() else { return Ok(()) };
+        let size = self.truth[&address].len() as u64;
+        self.both(Request::ProtectForWriting { address, size })?;
+        let record = self.contents();
+        for host in [&mut self.lead, &mut self.standby] {
+            assert_eq!(host.memory[&address], self.truth[&address], "{} has record {address}", host.name);
+            host.memory.insert(address, record.clone());
+            host.dirty.insert(address);
+        }
+        self.both(Request::ReleaseChanged { address, size: record.len() as u64 })?;
+        self.truth.insert(address, record);
+        self.story.changed += 1;
+        Ok(())
+    }
+
+    fn read(&mut self, pin: bool) -> Result<(), Box<dyn Error>> {
+        let Some(address) = self.some_record() else { return Ok(()) };
+        let size = self.truth[&address].len() as u64;
+        let at_lead = self.below(2) == 0;
+        let host = if at_lead { &mut self.lead } else { &mut self.standby };
+        host.ask(&self.world, &Request::ProtectForReading { address, size })?;
+        assert_eq!(host.memory[&address], self.truth[&address], "{} has record {address}", host.name);
+        if pin && !host.pinned.contains(&address) && host.pinned.len() < MOST_PINS {
+            host.ask(&self.world, &Request::Pin { address })?;
+            host.pinned.insert(address);
+            self.story.pinned += 1;
+        }
+        host.ask(&self.world, &Request::ReleaseUnchanged { address })?;
+        self.story.read += 1;
+        Ok(())
+    }
+
+    fn unpin(&mut self) -> Result<(), Box<dyn Error>> {
+        for host in [&mut self.lead, &mut self.standby] {
+            if let Some(address) = host.pinned.pop_first() {
+                host.ask(&self.world, &Request::Unpin { address })?;
+            }
+        }
+        Ok(())
+    }
+
+    fn discard(&mut self) -> Result<(), Box<dyn Error>> {
+        let Some(address) = self.some_record() else { return Ok(()) };
+        if self.lead.pinned.contains(&address) || self.standby.pinned.contains(&address) {
+            return Ok(());
+        }
+        self.both(Request::Discard { address })?;
+        for host in [&mut self.lead, &mut self.standby] {
+            host.memory.remove(&address);
+            host.dirty.remove(&address);
+        }
+        self.truth.remove(&address);
+        self.story.discarded += 1;
+        Ok(())
+    }
+
+    /// The world moves: all is written, and the hosts change parts with fresh caches.
+    fn move_world(&mut self) -> Result<(), Box<dyn Error>> {
+        self.send_list(Request::Flush)?;
+        assert!(self.lead.dirty.is_empty() && self.standby.dirty.is_empty());
+        std::mem::swap(&mut self.lead, &mut self.standby);
+        self.lead.open(Mode::Lead)?;
+        self.standby.open(Mode::Standby)?;
+        self.story.moves += 1;
+        Ok(())
+    }
+
+    /// The lead is lost with its memory. The standby leads, and brings in what it knows as dirty.
+    fn lose_lead(&mut self) -> Result<(), Box<dyn Error>> {
+        std::mem::swap(&mut self.lead, &mut self.standby);
+        let survivor = &mut self.lead;
+        let rescued: Vec<(u64, Vec<u8>)> =
+            survivor.dirty.iter().map(|address| (*address, survivor.memory[address].clone())).collect();
+        self.lead.open(Mode::Lead)?;
+        self.standby.open(Mode::Standby)?;
+        self.story.leads_lost += 1;
+        self.story.rescued += rescued.len() as u64;
+        for (address, record) in rescued {
+            self.insert(address, record)?;
+        }
+        Ok(())
+    }
+
+    fn act(&mut self) -> Result<(), Box<dyn Error>> {
+        if !self.lead.has_room() || !self.standby.has_room() {
+            self.send_list(Request::Flush)?;
+        }
+        match self.below(1_000) {
+            0..=99 => self.create(),
+            100..=349 => self.change(),
+            350..=849 => self.read(false),
+            850..=879 => self.read(true),
+            880..=919 => self.unpin(),
+            920..=969 => self.discard(),
+            970..=979 => self.send_list(Request::Flush),
+            980..=989 => self.send_list(Request::Sync),
+            990 => self.move_world(),
+            991 => self.lose_lead(),
+            _ if report(&self.lead.table)?.due => self.send_list(Request::Sync),
+            _ => Ok(()),
+        }
+    }
+
+    /// No record is lost, and the caches say what the hosts know.
+    fn check(&mut self) -> Result<(), Box<dyn Error>> {
+        let file = self.world.read(0, SLOTS * SLOT_BYTES)?;
+        for (address, record) in &self.truth {
+            if self.lead.dirty.contains(address) {
+                assert!(self.standby.dirty.contains(address), "record {address} is dirty at the lead alone");
+                assert_eq!(&self.lead.memory[address], record, "record {address} in the lead's memory");
+                assert_eq!(&self.standby.memory[address], record, "record {address} in the standby's memory");
+            } else {
+                let at = (address * SLOT_BYTES) as usize;
+                assert_eq!(&file[at..at + record.len()], record, "record {address} in the file");
+            }
+        }
+        let figures = [report(&self.lead.table)?, report(&self.standby.table)?];
+        for (host, figures) in [&self.lead, &self.standby].into_iter().zip(figures) {
+            let held: usize = host.memory.values().map(|record| record.len()).sum();
+            let dirty: usize = host.dirty.iter().map(|address| host.memory[address].len()).sum();
+            let known = (held as u64, dirty as u64, host.memory.len() as u64);
+            assert_eq!((figures.held, figures.dirty, figures.entries), known, "{}", host.name);
+        }
+        assert_eq!((figures[0].count, figures[0].due), (figures[1].count, figures[1].due));
+        let story = &mut self.story;
+        story.most_dirty = story.most_dirty.max(figures[0].dirty);
+        story.least_maximum = story.least_maximum.min(figures[0].maximum);
+        story.most_maximum = story.most_maximum.max(figures[0].maximum);
+        Ok(())
+    }
+}
+
+fn main() -> Result<(), Box<dyn Error>> {
+    let mut arguments = std::env::args().skip(1);
+    let seed: u64 = arguments.next().map_or(Ok(1), |text| text.parse())?;
+    let steps: u64 = arguments.next().map_or(Ok(20_000), |text| text.parse())?;
+    let given = arguments.next().map(PathBuf::from);
+    let folder = match &given {
+        Some(folder) => folder.clone(),
+        None => std::env::temp_dir().join(format!("speldervacht-host-{}", std::process::id())),
+    };
+    std::fs::create_dir_all(&folder)?;
+    let path = folder.join("world");
+    let file = OpenOptions::new().read(true).write(true).create(true).truncate(true).open(&path)?;
+    file.set_len(SLOTS * SLOT_BYTES)?;
+    let mut play = Play {
+        world: World { file },
+        truth: BTreeMap::new(),
+        lead: Host::new("host 1", Mode::Lead)?,
+        standby: Host::new("host 2", Mode::Standby)?,
+        random: seed.wrapping_mul(0x9e37_79b9_7f4a_7c15).max(1),
+        story: Story { least_maximum: u64::MAX, ..Story::default() },
+    };
+    println!("seed {seed}, {steps} steps, world in {}", path.display());
+    for _ in 0..steps {
+        play.act()?;
+        play.check()?;
+    }
+    let story = &play.story;
+    println!("{} created, {} changed, {} discarded", story.created, story.changed, story.discarded);
+    println!("{} read, {} pinned for a while", story.read, story.pinned);
+    println!("{} lists, the longest with {} records", story.lists, story.longest_list);
+    println!(
+        "{} moves; {} leads lost, {} dirty records brought in by the standby",
+        story.moves, story.leads_lost, story.rescued
+    );
+    for host in [&play.lead, &play.standby] {
+        println!("{}: {} writes, {} loads, {} evictions", host.name, host.writes, host.loads, host.evictions);
+    }
+    println!("maximum from {} to {} bytes, dirty up to {}", story.least_maximum, story.most_maximum, story.most_dirty);
+    println!("no record was lost at any step");
+    if given.is_none() {
+        std::fs::remove_dir_all(&folder)?;
+    }
+    Ok(())
+}

@@ -1,0 +1,256 @@
+//! Speldervacht: a metadata cache that keeps the books, while the host reads and writes the
+//! records.
+//!
+//! The host lends three slices of words: a *table* that holds the cache from one request to the
+//! next, words for the *orders* that a request gives, and, for a standby, a *list* of addresses.
+//! [`open`] makes a fresh cache in a table, [`step`] does one request on it, [`report`] tells its
+//! figures. A request is accepted, and the host carries out its orders in turn, or it is refused,
+//! and then nothing has changed. A table has no pointers: the host may copy, move or store it
+//! between requests, and must not write to it.
+//!
+//! ```
+//! use speldervacht::{open, order_words, report, step, table_words, Mode, Request, Settings};
+//!
+//! // A cache of four entries and 4,096 bytes.
+//! let rows = 4;
+//! let mut table = vec![0; table_words(rows)];
+//! let mut orders = vec![0; order_words(rows)];
+//! let settings = Settings { clean_fraction: 0.0, ..Settings::fixed(4_096) };
+//! open(&mut table, rows, Mode::Alone, speldervacht::DEFAULT_THRESHOLD, &settings)?;
+//!
+//! // Two new records fit. The third needs room: both are written, and the oldest leaves.
+//! for (address, size) in [(100, 3_000), (200, 1_000)] {
+//!     let given = step(&mut table, &mut orders, &Request::Insert { address, size })?;
+//!     assert_eq!(given.len(), 0);
+//! }
+//! let given = step(&mut table, &mut orders, &Request::Insert { address: 300, size: 500 })?;
+//! let told: Vec<String> = given.map(|order| order.to_string()).collect();
+//! assert_eq!(told, ["write 100 3000", "write 200 1000", "evict 100 3000"]);
+//!
+//! let figures = report(&table)?;
+//! assert_eq!((figures.held, figures.dirty, figures.entries), (1_500, 500, 2));
+//!
+//! // What a cache does not allow, it refuses.
+//! let refusal = step(&mut table, &mut orders, &Request::Unpin { address: 200 }).unwrap_err();
+//! assert_eq!(refusal.to_string(), "the entry at 200 is not pinned (10)");
+//! # Ok::<(), speldervacht::Refusal>(())
+//! ```
+
+mod order;
+pub mod raw;
+mod refusal;
+mod settings;
+
+pub use order::{Order, OrderKind, Orders};
+pub use refusal::{Hold, Refusal};
+pub use settings::{Decrease, Flash, Increase, Settings};
+
+/// The most rows of a table.
+pub const MOST_ROWS: usize = 4_096;
+/// The largest entry, in bytes.
+pub const LARGEST_ENTRY: u64 = 134_217_728;
+/// The dirty-byte threshold that fits most hosts, in bytes.
+pub const DEFAULT_THRESHOLD: u64 = 262_144;
+/// The largest dirty-byte threshold, in bytes.
+pub const LARGEST_THRESHOLD: u64 = 1_073_741_824;
+/// Where the byte count stops.
+pub const COUNT_STOP: u64 = 1_099_511_627_776;
+/// The one number that is no address.
+pub const NO_ADDRESS: u64 = u64::MAX;
+
+const HEADER_WORDS: usize = 29;
+const ROW_WORDS: usize = 6;
+const WORDS_FOR_EACH_ROW: usize = 8;
+
+/// The words that a table with so many rows takes.
+pub const fn table_words(rows: usize) -> usize {
+    rows.saturating_mul(WORDS_FOR_EACH_ROW).saturating_add(HEADER_WORDS)
+}
+
+/// The words that the orders of one request may take.
+pub const fn order_words(rows: usize) -> usize {
+    rows.saturating_mul(6).saturating_add(3)
+}
+
+/// What part a cache plays. It is fixed at opening.
+#[derive(Clone, Copy, Debug, PartialEq, Eq)]
+pub enum Mode {
+    /// The one cache of its world: dirty entries are written as room is made.
+    Alone,
+    /// Writes only at a flush or sync, and tells the standby by a list.
+    Lead,
+    /// Never writes; takes the lead's lists.
+    Standby,
+}
+
+/// A request. Addresses are any number but all ones; sizes are 1 to 134,217,728 bytes.
+#[derive(Clone, Copy, Debug, PartialEq)]
+pub enum Request<'a> {
+    /// A new record: room is made, and its entry comes, dirty.
+    Insert { address: u64, size: u64 },
+    /// A hold for reading, joining other readers. On a miss, room is made for the size and the
+    /// record is loaded.
+    ProtectForReading { address: u64, size: u64 },
+    /// A hold for writing, which nobody shares. On a miss as for reading.
+    ProtectForWriting { address: u64, size: u64 },
+    /// One hold goes.
+    ReleaseUnchanged { address: u64 },
+    /// The writer's hold goes; the record was changed and has this size now.
+    ReleaseChanged { address: u64, size: u64 },
+    /// A held entry is pinned: it stays until it is unpinned.
+    Pin { address: u64 },
+    /// The pin goes.
+    Unpin { address: u64 },
+    /// An entry that is pinned or held for writing was changed and has this size now.
+    Resize { address: u64, size: u64 },
+    /// The record is gone: its entry goes without an order.
+    Discard { address: u64 },
+    /// Every dirty entry is written, by rising address. For alone and lead; nothing may be held.
+    Flush,
+    /// Entries are written until enough is clean. For the lead.
+    Sync,
+    /// The addresses that the lead wrote at its flush or sync become clean. For the standby.
+    Take { list: &'a [u64] },
+    /// Other settings.
+    Configure { settings: Settings },
+}
+
+impl Request<'_> {
+    /// The address that the request names, or 0.
+    fn address(&self) -> u64 {
+        match *self {
+            Request::Insert { address, .. }
+            | Request::ProtectForReading { address, .. }
+            | Request::ProtectForWriting { address, .. }
+            | Request::ReleaseUnchanged { address }
+            | Request::ReleaseChanged { address, .. }
+            | Request::Pin { address }
+            | Request::Unpin { address }
+            | Request::Resize { address, .. }
+            | Request::Discard { address } => address,
+            Request::Flush | Request::Sync | Request::Take { .. } | Request::Configure { .. } => 0,
+        }
+    }
+
+    /// The size that the request names, or 0.
+    fn size(&self) -> u64 {
+        match *self {
+            Request::Insert { size, .. }
+            | Request::ProtectForReading { size, .. }
+            | Request::ProtectForWriting { size, .. }
+            | Request::ReleaseChanged { size, .. }
+            | Request::Resize { size, .. } => size,
+            _ => 0,
+        }
+    }
+
+    fn to_raw(self) -> raw::Request {
+        let kind = match self {
+            Request::Insert { .. } => 1,
+            Request::ProtectForReading { .. } => 2,
+            Request::ProtectForWriting { .. } => 3,
+            Request::ReleaseUnchanged { .. } => 4,
+            Request::ReleaseChanged { .. } => 5,
+            Request::Pin { .. } => 6,
+            Request::Unpin { .. } => 7,
+            Request::Resize { .. } => 8,
+            Request::Discard { .. } => 9,
+            Request::Flush => 10,
+            Request::Sync => 11,
+            Request::Take { .. } => 12,
+            Request::Configure { .. } => 13,
+        };
+        let settings = match self {
+            Request::Configure { settings } => settings.to_raw(),
+            _ => raw::Settings::default(),
+        };
+        raw::Request { kind, address: self.address(), size: self.size(), settings }
+    }
+}
+
+/// The figures of a cache. All but `entries` and `due` are in bytes.
+#[derive(Clone, Copy, Debug, PartialEq, Eq)]
+pub struct Report {
+    /// The sizes of all entries.
+    pub held: u64,
+    /// The sizes of the dirty ones.
+    pub dirty: u64,
+    pub entries: u64,
+    /// What the cache tries to keep the held bytes within.
+    pub maximum: u64,
+    /// What is to be clean or unused.
+    pub minimum_clean: u64,
+    /// Bytes made dirty since the last list.
+    pub count: u64,
+    /// Whether the count exceeds the threshold, so that a list is due.
+    pub due: bool,
+    /// The sizes of the entries with idle count 0, 1 and so on to 10.
+    pub totals: [u64; 11],
+}
+
+/// Opens a fresh cache in the table, whatever its words were.
+///
+/// The table needs [`table_words`] of the rows, which are 1 to [`MOST_ROWS`]; words past these are
+/// left alone. The threshold is the byte count above which a list is due.
+pub fn open(table: &mut [u64], rows: usize, mode: Mode, threshold: u64, settings: &Settings) -> Result<(), Refusal> {
+    let mode = match mode {
+        Mode::Alone => 0,
+        Mode::Lead => 1,
+        Mode::Standby => 2,
+    };
+    // SAFETY: the slice is ours for the call.
+    let answer = unsafe {
+        raw::speldervacht_open(table.as_mut_ptr(), table.len(), rows as u64, mode, threshold, settings.to_raw())
+    };
+    match answer.number {
+        0 => Ok(()),
+        _ => Err(Refusal::of_opening(answer, threshold)),
+    }
+}
+
+/// Does one request on the cache in the table, and gives its orders.
+///
+/// Insert, protect, release, flush, sync and configure can give orders and need [`order_words`] of
+/// the rows; words past the last order are left alone.
+pub fn step<'o>(table: &mut [u64], orders: &'o mut [u64], request: &Request) -> Result<Orders<'o>, Refusal> {
+    let list = match *request {
+        Request::Take { list } => list,
+        _ => &[],
+    };
+    // SAFETY: the slices are ours for the call, and borrowed apart.
+    let answer = unsafe {
+        raw::speldervacht_step(
+            table.as_mut_ptr(),
+            table.len(),
+            orders.as_mut_ptr(),
+            orders.len(),
+            list.as_ptr(),
+            list.len(),
+            request.to_raw(),
+        )
+    };
+    match answer.number {
+        0 => Ok(Orders::new(&orders[..3 * answer.orders as usize])),
+        _ => Err(Refusal::of_request(answer, table, orders.len(), request)),
+    }
+}
+
+/// Tells the figures of the cache in the table; a bad table is refused.
+pub fn report(table: &[u64]) -> Result<Report, Refusal> {
+    // SAFETY: the slice is borrowed for the call.
+    let figures = unsafe { raw::speldervacht_report(table.as_ptr(), table.len()) };
+    match figures.number {
+        0 => Ok(Report {
+            held: figures.held,
+            dirty: figures.dirty,
+            entries: figures.entries,
+            maximum: figures.maximum,
+            minimum_clean: figures.clean,
+            count: figures.count,
+            due: figures.due != 0,
+            totals: figures.totals,
+        }),
+        1 => Err(Refusal::BadTable),
+        number => Err(Refusal::Other { number }),
+    }
+}

@@ -1,0 +1,106 @@
+//! The C interface, as speldervacht.h declares it. The functions of the crate's root are safe; use
+//! these only where numbers outside the enums are wanted.
+
+/// The settings: flags are on unless 0; kinds are numbers; the other words count where their kind
+/// has them.
+#[repr(C)]
+#[derive(Clone, Copy, Debug, Default, PartialEq)]
+pub struct Settings {
+    pub evictions: u64,
+    pub preset: u64,
+    pub initial: u64,
+    pub clean: f64,
+    pub largest: u64,
+    pub smallest: u64,
+    pub epoch: u64,
+    pub increase_kind: u64,
+    pub increase_lower: f64,
+    pub increase_multiplier: f64,
+    pub increment_kind: u64,
+    pub increment_bytes: u64,
+    pub flash_kind: u64,
+    pub flash_multiple: f64,
+    pub flash_threshold: f64,
+    pub decrease_kind: u64,
+    pub decrease_upper: f64,
+    pub decrease_multiplier: f64,
+    pub decrease_epochs: u64,
+    pub decrease_reserve: f64,
+    pub decrement_kind: u64,
+    pub decrement_bytes: u64,
+}
+
+/// A request: a kind from 1 to 13, and what the kind reads.
+#[repr(C)]
+#[derive(Clone, Copy, Debug, Default, PartialEq)]
+pub struct Request {
+    pub kind: u64,
+    pub address: u64,
+    pub size: u64,
+    pub settings: Settings,
+}
+
+/// An answer: 0 or a refusal's number, the bad field with 12, and how many orders were given.
+#[repr(C)]
+#[derive(Clone, Copy, Debug, Default, PartialEq, Eq)]
+pub struct Answer {
+    pub number: u64,
+    pub field: u64,
+    pub orders: u64,
+}
+
+/// The figures of a cache; with number 1 all else is 0.
+#[repr(C)]
+#[derive(Clone, Copy, Debug, Default, PartialEq, Eq)]
+pub struct Figures {
+    pub number: u64,
+    pub held: u64,
+    pub dirty: u64,
+    pub entries: u64,
+    pub maximum: u64,
+    pub clean: u64,
+    pub count: u64,
+    pub due: u64,
+    pub totals: [u64; 11],
+}
+
+const _: () = assert!(size_of::<Settings>() == 176);
+const _: () = assert!(size_of::<Request>() == 200);
+const _: () = assert!(size_of::<Answer>() == 24);
+const _: () = assert!(size_of::<Figures>() == 152);
+
+extern "C" {
+    /// Opens a fresh cache in the table.
+    ///
+    /// # Safety
+    /// `table` has `table_words` words that nothing else touches during the call.
+    pub fn speldervacht_open(
+        table: *mut u64,
+        table_words: usize,
+        rows: u64,
+        mode: u64,
+        threshold: u64,
+        settings: Settings,
+    ) -> Answer;
+
+    /// Does one request.
+    ///
+    /// # Safety
+    /// Each pointer has as many words as its length says, nothing else touches them during the
+    /// call, and no two of the three overlap.
+    pub fn speldervacht_step(
+        table: *mut u64,
+        table_words: usize,
+        orders: *mut u64,
+        order_words: usize,
+        list: *const u64,
+        list_words: usize,
+        request: Request,
+    ) -> Answer;
+
+    /// Tells the figures of the cache in the table.
+    ///
+    /// # Safety
+    /// `table` has `table_words` words that nothing writes during the call.
+    pub fn speldervacht_report(table: *const u64, table_words: usize) -> Figures;
+}

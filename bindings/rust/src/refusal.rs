@@ -1,0 +1,203 @@
+//! Why a request was refused.
+
+use crate::{order_words, raw, Mode, Request, HEADER_WORDS, ROW_WORDS};
+use std::fmt;
+
+/// A hold on an entry.
+#[derive(Clone, Copy, Debug, PartialEq, Eq)]
+pub enum Hold {
+    /// So many readers, 1 to 65,535.
+    Readers(u64),
+    Writer,
+}
+
+/// A refusal. It gave no orders and changed no word.
+#[derive(Clone, Copy, Debug, PartialEq, Eq)]
+#[non_exhaustive]
+pub enum Refusal {
+    /// 1: the row count is out of limits, the table is too short, or its words picture no cache.
+    BadTable,
+    /// 2: the request can give orders, and too few words were lent for them.
+    FewOrderWords { needed: usize, lent: usize },
+    /// 3: all ones is no address.
+    BadAddress,
+    /// 4: a size is 1 to 134,217,728 bytes.
+    BadSize { size: u64 },
+    /// 5: the request is not for a cache in this mode.
+    WrongMode { mode: Mode },
+    /// 5: a threshold is 1 to 1,073,741,824 bytes.
+    BadThreshold { threshold: u64 },
+    /// 6: the cache has no entry at the address.
+    NotInCache { address: u64 },
+    /// 7: the cache has an entry at the address.
+    InCache { address: u64 },
+    /// 8: the entry's hold forbids it.
+    Held { address: u64, hold: Hold },
+    /// 9: the entry lacks the hold that the request needs.
+    NotHeld { address: u64 },
+    /// 10: the entry is pinned.
+    Pinned { address: u64 },
+    /// 10: the entry is not pinned.
+    NotPinned { address: u64 },
+    /// 11: no row is free, and no entry may be evicted.
+    NoRow,
+    /// 12: a setting is bad; its number is 1 to 12.
+    BadSetting { field: u64 },
+    /// 13: the list names an address twice, or one that is not dirty here.
+    BadList,
+    /// A number that this crate does not know.
+    Other { number: u64 },
+}
+
+/// The names of the settings by number.
+const FIELDS: [&str; 12] = [
+    "evictions",
+    "whether the initial size is set",
+    "the initial size",
+    "the minimum clean fraction",
+    "the maximum size",
+    "the minimum size",
+    "the epoch length",
+    "the increase rule",
+    "the cap on one increase",
+    "the flash rule",
+    "the decrease rule",
+    "the cap on one decrease",
+];
+
+impl Refusal {
+    /// The number, 1 to 13.
+    pub fn number(&self) -> u64 {
+        match *self {
+            Refusal::BadTable => 1,
+            Refusal::FewOrderWords { .. } => 2,
+            Refusal::BadAddress => 3,
+            Refusal::BadSize { .. } => 4,
+            Refusal::WrongMode { .. } | Refusal::BadThreshold { .. } => 5,
+            Refusal::NotInCache { .. } => 6,
+            Refusal::InCache { .. } => 7,
+            Refusal::Held { .. } => 8,
+            Refusal::NotHeld { .. } => 9,
+            Refusal::Pinned { .. } | Refusal::NotPinned { .. } => 10,
+            Refusal::NoRow => 11,
+            Refusal::BadSetting { .. } => 12,
+            Refusal::BadList => 13,
+            Refusal::Other { number } => number,
+        }
+    }
+
+    pub(crate) fn of_opening(answer: raw::Answer, threshold: u64) -> Refusal {
+        match answer.number {
+            1 => Refusal::BadTable,
+            5 => Refusal::BadThreshold { threshold },
+            12 => Refusal::BadSetting { field: answer.field },
+            number => Refusal::Other { number },
+        }
+    }
+
+    /// The refusal of a request, with what the untouched table tells of it.
+    pub(crate) fn of_request(answer: raw::Answer, table: &[u64], lent: usize, request: &Request) -> Refusal {
+        let address = request.address();
+        match answer.number {
+            1 => Refusal::BadTable,
+            2 => Refusal::FewOrderWords { needed: order_words(word(table, 1) as usize), lent },
+            3 => Refusal::BadAddress,
+            4 => Refusal::BadSize { size: request.size() },
+            5 => Refusal::WrongMode {
+                mode: match word(table, 2) {
+                    0 => Mode::Alone,
+                    1 => Mode::Lead,
+                    _ => Mode::Standby,
+                },
+            },
+            6 => Refusal::NotInCache { address },
+            7 => Refusal::InCache { address },
+            8 => held(table, request),
+            9 => Refusal::NotHeld { address },
+            10 => match request {
+                Request::Unpin { .. } => Refusal::NotPinned { address },
+                _ => Refusal::Pinned { address },
+            },
+            11 => Refusal::NoRow,
+            12 => Refusal::BadSetting { field: answer.field },
+            13 => Refusal::BadList,
+            number => Refusal::Other { number },
+        }
+    }
+}
+
+fn word(table: &[u64], at: usize) -> u64 {
+    table.get(at).copied().unwrap_or(0)
+}
+
+/// The held entry that a request met: the one it names, or the first of all for a flush.
+fn held(table: &[u64], request: &Request) -> Refusal {
+    let rows = word(table, 1) as usize;
+    let words = table.get(HEADER_WORDS..).unwrap_or(&[]);
+    for row in words.chunks_exact(ROW_WORDS).take(rows) {
+        let (address, size, hold) = (row[0], row[1], row[5]);
+        let meant = matches!(request, Request::Flush) || address == request.address();
+        if size != 0 && hold != 0 && meant {
+            let hold = match hold {
+                65_536 => Hold::Writer,
+                readers => Hold::Readers(readers),
+            };
+            return Refusal::Held { address, hold };
+        }
+    }
+    Refusal::Other { number: 8 }
+}
+
+impl fmt::Display for Refusal {
+    fn fmt(&self, f: &mut fmt::Formatter) -> fmt::Result {
+        match *self {
+            Refusal::BadTable => {
+                write!(f, "the row count is out of limits, the table is too short, or its words picture no cache")
+            }
+            Refusal::FewOrderWords { needed, lent } => {
+                write!(f, "the request needs {needed} words for orders and was lent {lent}")
+            }
+            Refusal::BadAddress => write!(f, "all ones is no address"),
+            Refusal::BadSize { size } => {
+                write!(f, "a size of {size} is not within 1 to 134217728 bytes")
+            }
+            Refusal::WrongMode { mode } => {
+                let mode = match mode {
+                    Mode::Alone => "alone",
+                    Mode::Lead => "a lead",
+                    Mode::Standby => "a standby",
+                };
+                write!(f, "the request is not for a cache that is {mode}")
+            }
+            Refusal::BadThreshold { threshold } => {
+                write!(f, "a threshold of {threshold} is not within 1 to 1073741824 bytes")
+            }
+            Refusal::NotInCache { address } => write!(f, "the cache has no entry at {address}"),
+            Refusal::InCache { address } => write!(f, "the cache has an entry at {address}"),
+            Refusal::Held { address, hold: Hold::Writer } => write!(f, "the entry at {address} is held for writing"),
+            Refusal::Held { address, hold: Hold::Readers(1) } => {
+                write!(f, "the entry at {address} is held by 1 reader")
+            }
+            Refusal::Held { address, hold: Hold::Readers(n) } => {
+                write!(f, "the entry at {address} is held by {n} readers")
+            }
+            Refusal::NotHeld { address } => {
+                write!(f, "the entry at {address} lacks the hold that the request needs")
+            }
+            Refusal::Pinned { address } => write!(f, "the entry at {address} is pinned"),
+            Refusal::NotPinned { address } => write!(f, "the entry at {address} is not pinned"),
+            Refusal::NoRow => write!(f, "no row is free and no entry may be evicted"),
+            Refusal::BadSetting { field } => {
+                let name = field.checked_sub(1).and_then(|i| FIELDS.get(i as usize)).unwrap_or(&"unknown");
+                write!(f, "setting {field}, {name}, is bad")
+            }
+            Refusal::BadList => {
+                write!(f, "the list names an address twice, or one that is not dirty here")
+            }
+            Refusal::Other { .. } => write!(f, "the request was refused"),
+        }?;
+        write!(f, " ({})", self.number())
+    }
+}
+
+impl std::error::Error for Refusal {}

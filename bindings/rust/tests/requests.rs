@@ -1,0 +1,366 @@
+//! The worked cases of the rules, and every refusal, through the safe functions.
+
+use speldervacht::{
+    open, order_words, report, step, table_words, Decrease, Flash, Hold, Increase, Mode, Refusal, Request, Settings,
+    DEFAULT_THRESHOLD, LARGEST_ENTRY, LARGEST_THRESHOLD, NO_ADDRESS,
+};
+
+struct Cache {
+    table: Vec<u64>,
+    orders: Vec<u64>,
+}
+
+impl Cache {
+    fn open(rows: usize, mode: Mode, threshold: u64, settings: &Settings) -> Cache {
+        let mut cache = Cache { table: vec![7; table_words(rows)], orders: vec![9; order_words(rows)] };
+        open(&mut cache.table, rows, mode, threshold, settings).unwrap();
+        cache
+    }
+
+    /// Alone, maximum 4,096, between 1,024 and 16,384, clean fraction 0, no rules.
+    fn small(rows: usize, mode: Mode) -> Cache {
+        Cache::open(rows, mode, DEFAULT_THRESHOLD, &small())
+    }
+
+    fn ask(&mut self, request: Request) -> Result<Vec<String>, u64> {
+        let before = (self.table.clone(), self.orders.clone());
+        match step(&mut self.table, &mut self.orders, &request) {
+            Ok(orders) => Ok(orders.map(|order| order.to_string()).collect()),
+            Err(refusal) => {
+                assert_eq!((&self.table, &self.orders), (&before.0, &before.1), "a refusal changes nothing");
+                Err(refusal.number())
+            }
+        }
+    }
+
+    fn insert(&mut self, address: u64, size: u64) -> Result<Vec<String>, u64> {
+        self.ask(Request::Insert { address, size })
+    }
+
+    fn read(&mut self, address: u64, size: u64) -> Result<Vec<String>, u64> {
+        self.ask(Request::ProtectForReading { address, size })
+    }
+
+    fn write(&mut self, address: u64, size: u64) -> Result<Vec<String>, u64> {
+        self.ask(Request::ProtectForWriting { address, size })
+    }
+
+    fn release(&mut self, address: u64) -> Result<Vec<String>, u64> {
+        self.ask(Request::ReleaseUnchanged { address })
+    }
+
+    fn refusal(&mut self, request: Request) -> String {
+        step(&mut self.table, &mut self.orders, &request).unwrap_err().to_string()
+    }
+}
+
+fn small() -> Settings {
+    Settings {
+        initial_size: Some(4_096),
+        clean_fraction: 0.0,
+        maximum_size: 16_384,
+        minimum_size: 1_024,
+        increase: Increase::Off,
+        flash: Flash::Off,
+        decrease: Decrease::Off,
+        ..Settings::default()
+    }
+}
+
+const NONE: Result<Vec<String>, u64> = Ok(Vec::new());
+
+#[test]
+fn a_third_insert_writes_both_and_evicts_the_oldest() {
+    let mut cache = Cache::small(4, Mode::Alone);
+    assert_eq!(cache.insert(100, 3_000), NONE);
+    assert_eq!(cache.insert(200, 1_000), NONE);
+    assert_eq!(cache.insert(300, 500).unwrap(), ["write 100 3000", "write 200 1000", "evict 100 3000"]);
+    let figures = report(&cache.table).unwrap();
+    assert_eq!((figures.held, figures.dirty, figures.entries, figures.maximum), (1_500, 500, 2, 4_096));
+    assert_eq!(figures.totals, [1_500, 0, 0, 0, 0, 0, 0, 0, 0, 0, 0]);
+}
+
+#[test]
+fn what_fits_exactly_gives_no_orders() {
+    let mut cache = Cache::small(4, Mode::Alone);
+    cache.insert(100, 3_000).unwrap();
+    cache.insert(200, 1_000).unwrap();
+    assert_eq!(cache.insert(300, 96), NONE);
+    let mut cache = Cache::small(4, Mode::Alone);
+    cache.insert(100, 3_000).unwrap();
+    cache.insert(200, 1_000).unwrap();
+    assert_eq!(cache.insert(300, 97).unwrap(), ["write 100 3000", "write 200 1000", "evict 100 3000"]);
+}
+
+#[test]
+fn a_pinned_entry_stays() {
+    let mut cache = Cache::small(1, Mode::Alone);
+    assert_eq!(cache.read(100, 10).unwrap(), ["load 100 10"]);
+    cache.ask(Request::Pin { address: 100 }).unwrap();
+    cache.release(100).unwrap();
+    assert_eq!(cache.insert(200, 10), Err(11));
+    cache.ask(Request::Unpin { address: 100 }).unwrap();
+    assert_eq!(cache.insert(200, 10).unwrap(), ["evict 100 10"]);
+}
+
+#[test]
+fn one_of_two_readers_still_holds() {
+    let mut cache = Cache::small(4, Mode::Alone);
+    cache.read(100, 10).unwrap();
+    cache.read(100, 10).unwrap();
+    cache.release(100).unwrap();
+    assert_eq!(cache.ask(Request::Discard { address: 100 }), Err(8));
+    cache.release(100).unwrap();
+    assert_eq!(cache.ask(Request::Discard { address: 100 }), NONE);
+}
+
+#[test]
+fn an_epoch_with_few_hits_in_a_full_cache_raises_the_maximum() {
+    for (hits, maximum) in [(90, 4_096), (89, 6_144)] {
+        let settings = Settings {
+            epoch_length: 100,
+            increase: Increase::Threshold { lower: 0.9, multiplier: 1.5 },
+            increase_cap: None,
+            ..small()
+        };
+        let mut cache = Cache::open(4, Mode::Alone, DEFAULT_THRESHOLD, &settings);
+        // Two records take turns to miss; then the one that is there is hit.
+        let misses = 100 - hits;
+        for access in 0..100 {
+            let address = access.min(misses - 1) % 2;
+            cache.read(address, 4_096).unwrap();
+            cache.release(address).unwrap();
+        }
+        assert_eq!(report(&cache.table).unwrap().maximum, maximum);
+    }
+}
+
+#[test]
+fn a_large_entry_raises_the_maximum_at_once() {
+    for (size, maximum) in [(1_024, 4_096), (1_025, 5_025)] {
+        let settings = Settings { flash: Flash::On { multiple: 1.0, threshold: 0.25 }, ..small() };
+        let mut cache = Cache::open(4, Mode::Alone, DEFAULT_THRESHOLD, &settings);
+        for address in 1..=4 {
+            cache.insert(address, 1_000).unwrap();
+        }
+        cache.insert(5, size).unwrap();
+        assert_eq!(report(&cache.table).unwrap().maximum, maximum);
+    }
+}
+
+#[test]
+fn idle_entries_age_out_at_the_end_of_the_next_epoch() {
+    let settings = Settings { epoch_length: 100, decrease: Decrease::AgeOut { epochs: 1, reserve: 1.0 }, ..small() };
+    let mut cache = Cache::open(4, Mode::Alone, DEFAULT_THRESHOLD, &settings);
+    cache.insert(1, 10).unwrap();
+    let mut given = Vec::new();
+    for _ in 0..200 {
+        given.push(cache.read(2, 10).unwrap());
+        cache.release(2).unwrap();
+    }
+    assert_eq!(given[0], ["load 2 10"]);
+    assert_eq!(given[99], [""; 0]);
+    assert_eq!(given[199], ["write 1 10", "evict 1 10"]);
+}
+
+#[test]
+fn a_list_is_due_above_the_threshold() {
+    let mut cache = Cache::open(4, Mode::Lead, 1_000, &small());
+    cache.insert(1, 1_000).unwrap();
+    assert!(!report(&cache.table).unwrap().due);
+    cache.insert(2, 200).unwrap();
+    let figures = report(&cache.table).unwrap();
+    assert_eq!((figures.count, figures.due), (1_200, true));
+    assert_eq!(cache.ask(Request::Sync), NONE);
+    assert_eq!(report(&cache.table).unwrap().count, 0);
+}
+
+#[test]
+fn a_standby_takes_what_the_lead_wrote() {
+    let mut lead = Cache::small(4, Mode::Lead);
+    let mut standby = Cache::small(4, Mode::Standby);
+    for (address, size) in [(300, 30), (100, 10), (200, 20)] {
+        lead.insert(address, size).unwrap();
+        standby.insert(address, size).unwrap();
+    }
+    let orders = step(&mut lead.table, &mut lead.orders, &Request::Flush).unwrap();
+    let list: Vec<u64> = orders.map(|order| order.address).collect();
+    assert_eq!(list, [100, 200, 300]);
+    assert_eq!(standby.ask(Request::Take { list: &[100, 100] }), Err(13));
+    assert_eq!(standby.ask(Request::Take { list: &[100, 400] }), Err(13));
+    assert_eq!(standby.ask(Request::Take { list: &[NO_ADDRESS] }), Err(3));
+    assert_eq!(standby.ask(Request::Take { list: &list }), NONE);
+    assert_eq!(report(&standby.table).unwrap().dirty, 0);
+    assert_eq!(standby.ask(Request::Take { list: &[] }), NONE);
+    assert_eq!(lead.ask(Request::Take { list: &[] }), Err(5));
+}
+
+#[test]
+fn a_lead_gives_up_only_clean_entries() {
+    let mut lead = Cache::small(2, Mode::Lead);
+    lead.insert(1, 100).unwrap();
+    lead.insert(2, 100).unwrap();
+    assert_eq!(lead.insert(3, 100), Err(11));
+    assert_eq!(lead.ask(Request::Flush).unwrap(), ["write 1 100", "write 2 100"]);
+    assert_eq!(lead.insert(3, 100).unwrap(), ["evict 1 100"]);
+}
+
+#[test]
+fn refusals_are_sentences() {
+    let mut cache = Cache::small(4, Mode::Alone);
+    cache.write(100, 10).unwrap();
+    cache.read(200, 10).unwrap();
+    cache.insert(300, 10).unwrap();
+    let said: Vec<String> = [
+        Request::Insert { address: NO_ADDRESS, size: 0 },
+        Request::Insert { address: 1, size: 0 },
+        Request::Insert { address: 1, size: LARGEST_ENTRY + 1 },
+        Request::Sync,
+        Request::Pin { address: 1 },
+        Request::Insert { address: 100, size: 1 },
+        Request::ProtectForReading { address: 100, size: 1 },
+        Request::ReleaseChanged { address: 200, size: 1 },
+        Request::Flush,
+        Request::ReleaseUnchanged { address: 300 },
+        Request::Unpin { address: 300 },
+        Request::Configure { settings: Settings { epoch_length: 99, ..small() } },
+    ]
+    .into_iter()
+    .map(|request| cache.refusal(request))
+    .collect();
+    assert_eq!(
+        said,
+        [
+            "all ones is no address (3)",
+            "a size of 0 is not within 1 to 134217728 bytes (4)",
+            "a size of 134217729 is not within 1 to 134217728 bytes (4)",
+            "the request is not for a cache that is alone (5)",
+            "the cache has no entry at 1 (6)",
+            "the cache has an entry at 100 (7)",
+            "the entry at 100 is held for writing (8)",
+            "the entry at 200 is held by 1 reader (8)",
+            "the entry at 100 is held for writing (8)",
+            "the entry at 300 lacks the hold that the request needs (9)",
+            "the entry at 300 is not pinned (10)",
+            "setting 7, the epoch length, is bad (12)",
+        ]
+    );
+    let error: Box<dyn std::error::Error> = Box::new(Refusal::Held { address: 5, hold: Hold::Readers(2) });
+    assert_eq!(error.to_string(), "the entry at 5 is held by 2 readers (8)");
+}
+
+#[test]
+fn short_slices_are_refused() {
+    let rows = 4;
+    let settings = small();
+    let mut table = vec![7; table_words(rows)];
+    for words in [0, 1, 28, table_words(rows) - 1] {
+        assert_eq!(open(&mut table[..words], rows, Mode::Alone, 1, &settings), Err(Refusal::BadTable));
+    }
+    assert!(table.iter().all(|word| *word == 7));
+    assert_eq!(report(&table), Err(Refusal::BadTable));
+    assert_eq!(report(&[]), Err(Refusal::BadTable));
+    open(&mut table, rows, Mode::Alone, 1, &settings).unwrap();
+    for words in [0, 1, 28, table_words(rows) - 1] {
+        assert_eq!(report(&table[..words]), Err(Refusal::BadTable));
+        assert_eq!(step(&mut table[..words], &mut [], &Request::Flush).unwrap_err(), Refusal::BadTable);
+    }
+    let refusal = step(&mut table, &mut [0; 26], &Request::Insert { address: NO_ADDRESS, size: 0 }).unwrap_err();
+    assert_eq!(refusal, Refusal::FewOrderWords { needed: 27, lent: 26 });
+    assert_eq!(refusal.to_string(), "the request needs 27 words for orders and was lent 26 (2)");
+    // These give no orders and need no words for them.
+    assert_eq!(step(&mut table, &mut [], &Request::Discard { address: 1 }).unwrap().len(), 0);
+    assert_eq!(step(&mut table, &mut [], &Request::Pin { address: 1 }).unwrap_err().number(), 6);
+}
+
+#[test]
+fn opening_judges_rows_then_threshold_then_settings() {
+    let bad = Settings { initial_size: None, ..small() };
+    let mut table = vec![7; table_words(4_097)];
+    for rows in [0, 4_097, usize::MAX, usize::MAX / 8] {
+        assert_eq!(open(&mut table, rows, Mode::Lead, 0, &bad), Err(Refusal::BadTable));
+    }
+    for threshold in [0, LARGEST_THRESHOLD + 1, u64::MAX] {
+        assert_eq!(open(&mut table, 4, Mode::Lead, threshold, &bad), Err(Refusal::BadThreshold { threshold }));
+    }
+    assert_eq!(open(&mut table, 4, Mode::Lead, 1, &bad), Err(Refusal::BadSetting { field: 2 }));
+    assert!(table.iter().all(|word| *word == 7));
+    open(&mut table, 4_096, Mode::Lead, LARGEST_THRESHOLD, &Settings::default()).unwrap();
+    assert!(table[table_words(4_096)..].iter().all(|word| *word == 7));
+}
+
+#[test]
+fn bad_settings_are_named() {
+    let nan = f64::NAN;
+    let good = Settings::default();
+    let threshold = |upper| Decrease::Threshold { upper, multiplier: 0.5 };
+    let cases = [
+        (1, Settings { evictions: false, ..good }),
+        (3, Settings { initial_size: Some(1_048_575), ..good }),
+        (4, Settings { clean_fraction: nan, ..good }),
+        (4, Settings { clean_fraction: -0.1, ..good }),
+        (5, Settings { initial_size: None, maximum_size: 134_217_729, ..good }),
+        (6, Settings { initial_size: None, minimum_size: 1_023, ..good }),
+        (7, Settings { epoch_length: 1_000_001, ..good }),
+        (8, Settings { increase: Increase::Threshold { lower: 0.9, multiplier: 1.0 }, ..good }),
+        (8, Settings { decrease: threshold(0.9), ..good }),
+        (8, Settings { decrease: threshold(nan), ..good }),
+        (9, Settings { increase_cap: Some(u64::MAX), ..good }),
+        (10, Settings { flash: Flash::On { multiple: f64::INFINITY, threshold: 0.25 }, ..good }),
+        (11, Settings { decrease: threshold(1.5), ..good }),
+        (11, Settings { decrease: Decrease::AgeOut { epochs: 0, reserve: 0.1 }, ..good }),
+        (12, Settings { decrease_cap: Some(134_217_729), ..good }),
+    ];
+    let mut cache = Cache::open(4, Mode::Alone, 1, &good);
+    for (field, settings) in cases {
+        let refusal = step(&mut cache.table, &mut cache.orders, &Request::Configure { settings }).unwrap_err();
+        assert_eq!(refusal, Refusal::BadSetting { field }, "{settings:?}");
+    }
+    assert_eq!(cache.ask(Request::Configure { settings: Settings { initial_size: None, ..good } }), NONE);
+}
+
+#[test]
+fn every_reader_but_the_last_joins() {
+    let mut cache = Cache::small(1, Mode::Alone);
+    for _ in 0..65_535 {
+        step(&mut cache.table, &mut cache.orders, &Request::ProtectForReading { address: 0, size: 1 }).unwrap();
+    }
+    let more = Request::ProtectForReading { address: 0, size: 1 };
+    assert_eq!(cache.refusal(more), "the entry at 0 is held by 65535 readers (8)");
+}
+
+#[test]
+fn damaged_tables_are_answered() {
+    let mut cache = Cache::small(4, Mode::Alone);
+    cache.insert(100, 10).unwrap();
+    cache.read(200, 10).unwrap();
+    let good = cache.table.clone();
+    for at in 0..good.len() {
+        for word in [0, 1, 2, 65_536, 65_537, u64::MAX - 1, u64::MAX] {
+            cache.table = good.clone();
+            cache.table[at] = word;
+            let figures = report(&cache.table);
+            let asked = cache.ask(Request::Discard { address: 100 });
+            assert_eq!(figures.is_err(), asked == Err(1), "word {at} as {word}");
+        }
+    }
+}
+
+#[test]
+fn any_words_are_answered() {
+    let mut word = 1_u64;
+    let mut random = || {
+        word ^= word << 13;
+        word ^= word >> 7;
+        word ^= word << 17;
+        word
+    };
+    for _ in 0..2_000 {
+        let mut table: Vec<u64> = (0..random() % 100).map(|_| random()).collect();
+        if let Some(rows) = table.get_mut(1) {
+            *rows = random() % 6;
+        }
+        assert_eq!(report(&table), Err(Refusal::BadTable));
+        assert_eq!(step(&mut table, &mut [], &Request::Sync).unwrap_err(), Refusal::BadTable);
+    }
+}

@@ -1,0 +1,307 @@
+/*
+ * speldervacht.h: a metadata cache that keeps the books.
+ *
+ * The cache knows which records are in the host's memory, which of them are dirty, held or pinned,
+ * and which was used last. It never sees a record's contents: the host reads and writes records as
+ * the orders say.
+ *
+ * A host inserts a record that it creates. It protects a record before it reads or changes it, and
+ * releases it afterwards; if the record is not in the cache, protecting it gives an order to load
+ * it. A held or pinned entry stays. All others stand in the recency list, from which room is made:
+ * clean entries are evicted, the oldest first, and a cache that is alone writes dirty ones before. A
+ * lead writes at a flush or sync only and tells its standby by a list, so that both know the same
+ * dirty records.
+ *
+ * The host lends memory for each call and the library keeps none of its own:
+ *
+ *   table    uint64_t[SPELDERVACHT_TABLE_WORDS(rows)]    one cache, from one call to the next
+ *   orders   uint64_t[SPELDERVACHT_ORDER_WORDS(rows)]    what a request tells the host to do
+ *   list     const uint64_t[]                            addresses, for a standby's take
+ *
+ * The table, with n rows:
+ *
+ *   word
+ *   0          version
+ *   1          row count n
+ *   2          mode
+ *   3          dirty-byte threshold
+ *   4          maximum, in bytes
+ *   5          accesses in this epoch
+ *   6          hits in this epoch
+ *   7          bytes made dirty since the last list
+ *   8 .. 28    settings
+ *   29         n rows of 6 words: address, size, dirty, idle count, pinned, hold
+ *   29 + 6 n   recency run: row numbers from the oldest entry to the newest, then all ones
+ *   29 + 7 n   address run: row numbers of the entries by rising address, then all ones
+ *   29 + 8 n   the end; words past it are never touched
+ *
+ * Only the library writes to an open table. There are no pointers in it: between calls the host may
+ * read, copy, move or store it, and go on with a copy. A table whose words picture no cache is
+ * answered SPELDERVACHT_BAD_TABLE by every call but the opening.
+ *
+ * Every call ends with an answer, whatever the words and numbers are. A refusal gives no orders and
+ * changes no word of the table or of the orders; if several reasons apply, the lowest number is
+ * given.
+ *
+ * The pointers: each is aligned for uint64_t and points to at least as many words as its length
+ * says. NULL goes with the length 0. The table, the orders and the list of one call must not
+ * overlap. Too short a table is refused with 1, too few order words with 2. Calls on different
+ * tables may run at the same time; calls on one table may not, unless all of them are reports.
+ *
+ * A first cache:
+ *
+ *   uint64_t table[SPELDERVACHT_TABLE_WORDS(64)];
+ *   uint64_t orders[SPELDERVACHT_ORDER_WORDS(64)];
+ *   speldervacht_answer answer;
+ *
+ *   answer = speldervacht_open(table, SPELDERVACHT_TABLE_WORDS(64), 64, SPELDERVACHT_ALONE,
+ *                              SPELDERVACHT_DEFAULT_THRESHOLD, speldervacht_default_settings());
+ *   answer = speldervacht_step(table, SPELDERVACHT_TABLE_WORDS(64),
+ *                              orders, SPELDERVACHT_ORDER_WORDS(64), NULL, 0,
+ *                              speldervacht_request_of(SPELDERVACHT_INSERT, 100, 3000));
+ *   for (uint64_t i = 0; i < answer.orders; i++) {
+ *       uint64_t kind = orders[3 * i], address = orders[3 * i + 1], size = orders[3 * i + 2];
+ *       ...
+ *   }
+ */
+#ifndef SPELDERVACHT_H
+#define SPELDERVACHT_H
+
+#include <stddef.h>
+#include <stdint.h>
+
+#ifdef __cplusplus
+extern "C" {
+#define SPELDERVACHT_STATIC_ASSERT(test, words) static_assert(test, words)
+#else
+#define SPELDERVACHT_STATIC_ASSERT(test, words) _Static_assert(test, words)
+#endif
+
+/* ---- sizes and limits */
+
+/* The words of a table, and of the orders that one request may give. */
+#define SPELDERVACHT_TABLE_WORDS(rows) (29 + 8 * (size_t)(rows))
+#define SPELDERVACHT_ORDER_WORDS(rows) (3 * (2 * (size_t)(rows) + 1))
+
+/* Rows of a table: 1 to this. */
+#define SPELDERVACHT_MOST_ROWS 4096
+/* Bytes of an entry: 1 to this. */
+#define SPELDERVACHT_LARGEST_ENTRY UINT64_C(134217728)
+/* Readers of one entry: up to this. */
+#define SPELDERVACHT_MOST_READERS 65535
+/* The one number that is no address. */
+#define SPELDERVACHT_NO_ADDRESS UINT64_MAX
+/* The dirty-byte threshold: 1 to the largest, in bytes. */
+#define SPELDERVACHT_DEFAULT_THRESHOLD UINT64_C(262144)
+#define SPELDERVACHT_LARGEST_THRESHOLD UINT64_C(1073741824)
+/* Where the count of bytes made dirty stops. */
+#define SPELDERVACHT_COUNT_STOP UINT64_C(1099511627776)
+/* Idle counts are 0 to 10. */
+#define SPELDERVACHT_IDLE_COUNTS 11
+/* What the settings may name as maximum size and as minimum size, in bytes. */
+#define SPELDERVACHT_SMALLEST_CACHE UINT64_C(1024)
+#define SPELDERVACHT_LARGEST_CACHE UINT64_C(134217728)
+/* Accesses in an epoch: from the shortest to the longest. */
+#define SPELDERVACHT_SHORTEST_EPOCH UINT64_C(100)
+#define SPELDERVACHT_LONGEST_EPOCH UINT64_C(1000000)
+
+/* ---- numbers */
+
+/* What part a cache plays; fixed at opening. */
+enum speldervacht_mode {
+    SPELDERVACHT_ALONE = 0,   /* the one cache of its world; writes as room is made */
+    SPELDERVACHT_LEAD = 1,    /* writes at flush and sync alone, and sends lists to the standby */
+    SPELDERVACHT_STANDBY = 2  /* never writes; takes the lead's lists */
+};
+
+/* The kinds of request, and what each reads of struct speldervacht_request. Any other kind is
+ * answered SPELDERVACHT_BAD_MODE. */
+enum speldervacht_kind {
+    SPELDERVACHT_INSERT = 1,              /* address, size: room is made, a new dirty entry comes */
+    SPELDERVACHT_PROTECT_FOR_READING = 2, /* address, size: a hold that readers share; a miss loads */
+    SPELDERVACHT_PROTECT_FOR_WRITING = 3, /* address, size: a hold that nobody shares; a miss loads */
+    SPELDERVACHT_RELEASE_UNCHANGED = 4,   /* address: one hold goes */
+    SPELDERVACHT_RELEASE_CHANGED = 5,     /* address, size it has now: the writer's hold goes, dirty */
+    SPELDERVACHT_PIN = 6,                 /* address: a held entry stays until it is unpinned */
+    SPELDERVACHT_UNPIN = 7,               /* address: the pin goes */
+    SPELDERVACHT_RESIZE = 8,              /* address, size: a pinned or written entry is dirty, so large */
+    SPELDERVACHT_DISCARD = 9,             /* address: the entry goes with no order */
+    SPELDERVACHT_FLUSH = 10,              /* alone, lead: every dirty entry is written; none may be held */
+    SPELDERVACHT_SYNC = 11,               /* lead: entries are written until enough is clean */
+    SPELDERVACHT_TAKE = 12,               /* standby, the list: these addresses become clean */
+    SPELDERVACHT_CONFIGURE = 13           /* settings: they count from now on */
+};
+
+/* The kinds of order. An order is three words: kind, address, size. The host carries out the orders
+ * of a request in their order before its next request. */
+enum speldervacht_order {
+    SPELDERVACHT_WRITE = 1, /* write the record; its entry is clean now */
+    SPELDERVACHT_EVICT = 2, /* forget the record; its entry is gone */
+    SPELDERVACHT_LOAD = 3   /* read the record; its entry has come */
+};
+
+/* The answers. */
+enum speldervacht_number {
+    SPELDERVACHT_ACCEPTED = 0,
+    SPELDERVACHT_BAD_TABLE = 1,       /* rows out of limits, table too short, or no cache in it */
+    SPELDERVACHT_FEW_ORDER_WORDS = 2, /* insert, protect, release, flush, sync, configure need them */
+    SPELDERVACHT_BAD_ADDRESS = 3,     /* all ones is no address */
+    SPELDERVACHT_BAD_SIZE = 4,        /* 0, or above SPELDERVACHT_LARGEST_ENTRY */
+    SPELDERVACHT_BAD_MODE = 5,        /* not for this mode; at opening a bad mode or threshold */
+    SPELDERVACHT_NOT_IN_CACHE = 6,    /* release, pin, unpin or resize of what is not there */
+    SPELDERVACHT_IN_CACHE = 7,        /* insert of what is there */
+    SPELDERVACHT_HELD = 8,            /* the entry's hold forbids it */
+    SPELDERVACHT_NOT_HELD = 9,        /* the entry lacks the hold that is needed */
+    SPELDERVACHT_PIN_FORBIDS = 10,    /* pinned at pin or discard, not pinned at unpin */
+    SPELDERVACHT_NO_ROW = 11,         /* no row is free, and no entry may be evicted */
+    SPELDERVACHT_BAD_SETTING = 12,    /* the lowest bad field comes with it */
+    SPELDERVACHT_BAD_LIST = 13        /* an address twice, or one not dirty here */
+};
+
+/* Kinds of the rules and caps in the settings. An unknown kind is a bad setting. */
+enum speldervacht_increase {
+    SPELDERVACHT_INCREASE_OFF = 0,
+    SPELDERVACHT_INCREASE_BY_THRESHOLD = 1
+};
+
+enum speldervacht_cap {
+    SPELDERVACHT_NO_CAP = 0,
+    SPELDERVACHT_CAP_UP_TO = 1
+};
+
+enum speldervacht_flash {
+    SPELDERVACHT_FLASH_OFF = 0,
+    SPELDERVACHT_FLASH_ON = 1
+};
+
+enum speldervacht_decrease {
+    SPELDERVACHT_DECREASE_OFF = 0,
+    SPELDERVACHT_DECREASE_BY_THRESHOLD = 1,
+    SPELDERVACHT_DECREASE_BY_AGE_OUT = 2,
+    SPELDERVACHT_DECREASE_BY_AGE_OUT_WITH_THRESHOLD = 3
+};
+
+/* ---- structs, all words of 8 bytes, passed by value */
+
+/* The settings. The number before a field is what comes with SPELDERVACHT_BAD_SETTING. Words that
+ * their kind does not name are not read. */
+typedef struct speldervacht_settings {
+    uint64_t evictions;         /*  1: whether entries may be evicted: 0 is off, all else on */
+    uint64_t preset;            /*  2: whether the initial size is set; needed at opening */
+    uint64_t initial;           /*  3: the maximum to begin with, in [smallest, largest] */
+    double clean;               /*  4: the share of the maximum to be clean or unused, in [0, 1] */
+    uint64_t largest;           /*  5: the maximum never exceeds it */
+    uint64_t smallest;          /*  6: the maximum never falls below it */
+    uint64_t epoch;             /*  7: accesses in an epoch */
+    uint64_t increase_kind;     /*  8: enum speldervacht_increase */
+    double increase_lower;      /*     a hit rate below it in a full cache raises the maximum, [0, 1] */
+    double increase_multiplier; /*     by this factor, in (1, 2] */
+    uint64_t increment_kind;    /*  9: enum speldervacht_cap, for one increase */
+    uint64_t increment_bytes;   /*     up to SPELDERVACHT_LARGEST_CACHE */
+    uint64_t flash_kind;        /* 10: enum speldervacht_flash */
+    double flash_multiple;      /*     of the bytes that come, less free space, in [0.1, 10] */
+    double flash_threshold;     /*     of the maximum that these bytes have to exceed, in [0.1, 1] */
+    uint64_t decrease_kind;     /* 11: enum speldervacht_decrease */
+    double decrease_upper;      /*     both thresholds: a hit rate above it lowers the maximum, [0, 1] */
+    double decrease_multiplier; /*     threshold: by this factor, in [0, 1] */
+    uint64_t decrease_epochs;   /*     both age-outs: idle epochs until an entry goes, 1 to 10 */
+    double decrease_reserve;    /*     both age-outs: the share to keep empty, in [0, 1] */
+    uint64_t decrement_kind;    /* 12: enum speldervacht_cap, for one decrease */
+    uint64_t decrement_bytes;   /*     up to SPELDERVACHT_LARGEST_CACHE */
+} speldervacht_settings;
+
+/* A request. Only the words that its kind reads count. */
+typedef struct speldervacht_request {
+    uint64_t kind; /* enum speldervacht_kind */
+    uint64_t address;
+    uint64_t size;                         /* in bytes */
+    struct speldervacht_settings settings; /* for configure */
+} speldervacht_request;
+
+/* The answer to an opening or a request. */
+typedef struct speldervacht_answer {
+    uint64_t number; /* enum speldervacht_number */
+    uint64_t field;  /* 1 to 12 with SPELDERVACHT_BAD_SETTING, else 0 */
+    uint64_t orders; /* how many orders were given */
+} speldervacht_answer;
+
+/* The figures of a cache, in bytes but for entries and due. */
+typedef struct speldervacht_figures {
+    uint64_t number;                           /* 0, or SPELDERVACHT_BAD_TABLE and all else is 0 */
+    uint64_t held;                             /* the sizes of all entries */
+    uint64_t dirty;                            /* the sizes of the dirty ones */
+    uint64_t entries;                          /* how many */
+    uint64_t maximum;                          /* what held bytes are to stay within */
+    uint64_t clean;                            /* what is to be clean or unused */
+    uint64_t count;                            /* made dirty since the last list */
+    uint64_t due;                              /* 1 if the count exceeds the threshold, else 0 */
+    uint64_t totals[SPELDERVACHT_IDLE_COUNTS]; /* the sizes of the entries with each idle count */
+} speldervacht_figures;
+
+SPELDERVACHT_STATIC_ASSERT(sizeof(double) == 8, "double is a 64-bit float");
+SPELDERVACHT_STATIC_ASSERT(sizeof(struct speldervacht_settings) == 176, "22 words");
+SPELDERVACHT_STATIC_ASSERT(sizeof(struct speldervacht_request) == 200, "25 words");
+SPELDERVACHT_STATIC_ASSERT(sizeof(struct speldervacht_answer) == 24, "3 words");
+SPELDERVACHT_STATIC_ASSERT(sizeof(struct speldervacht_figures) == 152, "19 words");
+
+/* ---- functions */
+
+/* Opens a fresh, empty cache in the table, whatever its words were. Refused with BAD_TABLE, BAD_MODE
+ * or BAD_SETTING. */
+speldervacht_answer speldervacht_open(uint64_t *table, size_t table_words, uint64_t rows, uint64_t mode,
+                                      uint64_t threshold, struct speldervacht_settings settings);
+
+/* Does one request on the cache in the table. Its orders stand from orders[0] on, three words each;
+ * the words past the last order stay as they were. The list is read by take alone.
+ *
+ * A lead's list is the addresses of the write orders of an accepted flush or sync, and is sent even
+ * if it is empty. The standby takes each list once, as sent, before the next list or change. */
+speldervacht_answer speldervacht_step(uint64_t *table, size_t table_words, uint64_t *orders, size_t order_words,
+                                      const uint64_t *list, size_t list_words, struct speldervacht_request request);
+
+/* Tells the figures of the cache in the table. */
+speldervacht_figures speldervacht_report(const uint64_t *table, size_t table_words);
+
+/* The default settings: 2 MiB to begin with, between 1 MiB and 32 MiB, all rules on. */
+static inline speldervacht_settings speldervacht_default_settings(void) {
+    speldervacht_settings settings;
+    settings.evictions = 1;
+    settings.preset = 1;
+    settings.initial = 2097152;
+    settings.clean = 0.3;
+    settings.largest = 33554432;
+    settings.smallest = 1048576;
+    settings.epoch = 50000;
+    settings.increase_kind = SPELDERVACHT_INCREASE_BY_THRESHOLD;
+    settings.increase_lower = 0.9;
+    settings.increase_multiplier = 2.0;
+    settings.increment_kind = SPELDERVACHT_CAP_UP_TO;
+    settings.increment_bytes = 4194304;
+    settings.flash_kind = SPELDERVACHT_FLASH_ON;
+    settings.flash_multiple = 1.0;
+    settings.flash_threshold = 0.25;
+    settings.decrease_kind = SPELDERVACHT_DECREASE_BY_AGE_OUT_WITH_THRESHOLD;
+    settings.decrease_upper = 0.999;
+    settings.decrease_multiplier = 0.0;
+    settings.decrease_epochs = 3;
+    settings.decrease_reserve = 0.1;
+    settings.decrement_kind = SPELDERVACHT_CAP_UP_TO;
+    settings.decrement_bytes = 1048576;
+    return settings;
+}
+
+/* A request of any kind but configure. */
+static inline speldervacht_request speldervacht_request_of(uint64_t kind, uint64_t address, uint64_t size) {
+    speldervacht_request request;
+    request.kind = kind;
+    request.address = address;
+    request.size = size;
+    request.settings = speldervacht_default_settings();
+    return request;
+}
+
+#ifdef __cplusplus
+}
+#endif
+
+#endif

@@ -1,0 +1,168 @@
+//! A cache twice: in the library's table, and as the model.
+
+use crate::boundary::{mode_of, request_of, settings_of, Asked, SettingsWords};
+use crate::library::{self, Answer};
+use crate::model::{self, Model, Order, Report};
+use crate::table;
+use crate::tally::{Tally, OPENING};
+
+/// Where the library and the model part.
+#[derive(Clone, Debug)]
+pub struct Difference {
+    pub what: String,
+    pub library: String,
+    pub model: String,
+}
+
+fn differ<T>(what: impl Into<String>, library: impl ToString, model: impl ToString) -> Result<T, Difference> {
+    Err(Difference { what: what.into(), library: library.to_string(), model: model.to_string() })
+}
+
+pub struct Cache {
+    /// What the library works on, and what it should be.
+    pub table: Vec<u64>,
+    expected_table: Vec<u64>,
+    pub orders: Vec<u64>,
+    expected_orders: Vec<u64>,
+    /// The cache that the words picture, if they picture one.
+    pub model: Option<Model>,
+}
+
+impl Cache {
+    /// With so many words to lend, none of them a cache.
+    pub fn new(table_words: usize, order_words: usize) -> Cache {
+        let table: Vec<u64> = (0..table_words as u64).map(|i| i.wrapping_mul(0x0101_0101_0101_0101)).collect();
+        let orders: Vec<u64> = (0..order_words as u64).map(|i| !i).collect();
+        Cache { expected_table: table.clone(), table, expected_orders: orders.clone(), orders, model: None }
+    }
+
+    fn expected_words_stand(&self) -> Result<(), Difference> {
+        if self.table != self.expected_table {
+            let at = (0..self.table.len()).find(|i| self.table[*i] != self.expected_table[*i]).unwrap();
+            let rows = self.model.as_ref().map_or(0, |m| m.rows);
+            let what = format!("table word {at} ({})", table::name_of_word(rows, at));
+            return differ(what, self.table[at], self.expected_table[at]);
+        }
+        if self.orders != self.expected_orders {
+            let at = (0..self.orders.len()).find(|i| self.orders[*i] != self.expected_orders[*i]).unwrap();
+            let what = format!("order word {at} ({} of order {})", ["kind", "address", "size"][at % 3], at / 3);
+            return differ(what, self.orders[at], self.expected_orders[at]);
+        }
+        Ok(())
+    }
+
+    /// Counts what the model reached, and forgets it.
+    fn hand_in(&mut self, tally: &mut Tally) {
+        if let Some(m) = &mut self.model {
+            tally.reached.add(&std::mem::take(&mut m.reached));
+        }
+    }
+
+    pub fn open(
+        &mut self,
+        lent: usize,
+        rows: u64,
+        mode: u64,
+        threshold: u64,
+        settings: &SettingsWords,
+        tally: &mut Tally,
+    ) -> Result<Answer, Difference> {
+        self.hand_in(tally);
+        let long_enough = rows <= model::ROW_LIMIT && lent >= table::table_words(rows as usize);
+        let opened = model::open(rows, long_enough, mode_of(mode), threshold, settings_of(settings));
+        let expected = match &opened {
+            Ok(_) => Answer { number: 0, field: 0, orders: 0 },
+            Err(r) => Answer { number: r.number, field: r.field, orders: 0 },
+        };
+        if let Ok(m) = opened {
+            let words = table::picture(&m);
+            self.expected_table[..words.len()].copy_from_slice(&words);
+            self.model = Some(m);
+        }
+        let answer = library::open(&mut self.table[..lent], rows, mode, threshold, settings);
+        if answer != expected {
+            return differ("the answer", answer, expected);
+        }
+        self.expected_words_stand()?;
+        tally.answer(OPENING, &answer);
+        self.report(self.table.len(), tally)?;
+        Ok(answer)
+    }
+
+    /// One request; the orders it gave.
+    pub fn step(
+        &mut self,
+        lent: usize,
+        order_lent: usize,
+        list: &[u64],
+        asked: &Asked,
+        tally: &mut Tally,
+    ) -> Result<(Answer, Vec<Order>), Difference> {
+        let request = request_of(asked);
+        let pictured = self.model.as_mut().filter(|m| lent >= table::table_words(m.rows));
+        let (expected, orders) = match pictured.map(|m| m.step(&request, list, order_lent)) {
+            None => (Answer { number: 1, field: 0, orders: 0 }, Vec::new()),
+            Some(Err(r)) => (Answer { number: r.number, field: r.field, orders: 0 }, Vec::new()),
+            Some(Ok(orders)) => {
+                let words = table::picture(self.model.as_ref().unwrap());
+                self.expected_table[..words.len()].copy_from_slice(&words);
+                for (order, to) in orders.iter().zip(self.expected_orders.chunks_mut(3)) {
+                    to.copy_from_slice(&order.words());
+                }
+                (Answer { number: 0, field: 0, orders: orders.len() as u64 }, orders)
+            }
+        };
+        let list_before = list.to_vec();
+        let answer = library::step(&mut self.table[..lent], &mut self.orders[..order_lent], list, asked);
+        if answer != expected {
+            return differ("the answer", answer, expected);
+        }
+        self.expected_words_stand()?;
+        if list != list_before {
+            return differ("the list", format!("{list:?}"), format!("{list_before:?}"));
+        }
+        tally.answer(if asked.kind <= 13 { asked.kind as usize } else { 0 }, &answer);
+        self.hand_in(tally);
+        self.report(self.table.len(), tally)?;
+        Ok((answer, orders))
+    }
+
+    pub fn report(&mut self, lent: usize, tally: &mut Tally) -> Result<(), Difference> {
+        let pictured = self.model.as_ref().filter(|m| lent >= table::table_words(m.rows));
+        let nothing = Report {
+            held: 0,
+            dirty: 0,
+            entries: 0,
+            maximum: 0,
+            minimum_clean: 0,
+            count: 0,
+            due: false,
+            totals: [0; 11],
+        };
+        let expected = match pictured {
+            None => (1, nothing, 0),
+            Some(m) => {
+                let report = m.report();
+                let due = report.due as u64;
+                (0, report, due)
+            }
+        };
+        let told = library::report(&self.table[..lent]);
+        if told != expected {
+            return differ("the report", format!("{told:?}"), format!("{expected:?}"));
+        }
+        self.expected_words_stand()?;
+        tally.reports += 1;
+        Ok(())
+    }
+
+    /// Words written by somebody else.
+    pub fn put(&mut self, words: &[(usize, u64)], tally: &mut Tally) {
+        self.hand_in(tally);
+        for (at, word) in words {
+            self.table[*at] = *word;
+            self.expected_table[*at] = *word;
+        }
+        self.model = table::judge(&self.table);
+    }
+}

@@ -1,0 +1,124 @@
+//! The library through its C interface, on slices.
+
+use crate::boundary::{Asked, SettingsWords};
+use crate::model::Report;
+use speldervacht::raw;
+
+#[derive(Clone, Copy, Debug, PartialEq, Eq)]
+pub struct Answer {
+    pub number: u64,
+    pub field: u64,
+    pub orders: u64,
+}
+
+impl std::fmt::Display for Answer {
+    fn fmt(&self, f: &mut std::fmt::Formatter) -> std::fmt::Result {
+        match (self.number, self.orders) {
+            (0, 0) => write!(f, "accepted, no orders"),
+            (0, orders) => write!(f, "accepted, {orders} orders"),
+            (12, _) => write!(f, "refused 12, field {}", self.field),
+            (number, _) => write!(f, "refused {number}"),
+        }?;
+        if self.number != 0 && self.orders != 0 {
+            write!(f, ", {} orders", self.orders)?;
+        }
+        if self.number != 12 && self.field != 0 {
+            write!(f, ", field {}", self.field)?;
+        }
+        Ok(())
+    }
+}
+
+fn answer_of(a: raw::Answer) -> Answer {
+    Answer { number: a.number, field: a.field, orders: a.orders }
+}
+
+fn settings_of(w: &SettingsWords) -> raw::Settings {
+    let float = |i: usize| f64::from_bits(w[i]);
+    raw::Settings {
+        evictions: w[0],
+        preset: w[1],
+        initial: w[2],
+        clean: float(3),
+        largest: w[4],
+        smallest: w[5],
+        epoch: w[6],
+        increase_kind: w[7],
+        increase_lower: float(8),
+        increase_multiplier: float(9),
+        increment_kind: w[10],
+        increment_bytes: w[11],
+        flash_kind: w[12],
+        flash_multiple: float(13),
+        flash_threshold: float(14),
+        decrease_kind: w[15],
+        decrease_upper: float(16),
+        decrease_multiplier: float(17),
+        decrease_epochs: w[18],
+        decrease_reserve: float(19),
+        decrement_kind: w[20],
+        decrement_bytes: w[21],
+    }
+}
+
+/// No words are lent as NULL.
+fn start(words: &[u64]) -> *const u64 {
+    if words.is_empty() {
+        std::ptr::null()
+    } else {
+        words.as_ptr()
+    }
+}
+
+fn start_mut(words: &mut [u64]) -> *mut u64 {
+    if words.is_empty() {
+        std::ptr::null_mut()
+    } else {
+        words.as_mut_ptr()
+    }
+}
+
+pub fn open(table: &mut [u64], rows: u64, mode: u64, threshold: u64, settings: &SettingsWords) -> Answer {
+    let length = table.len();
+    // SAFETY: the slice is ours for the call.
+    answer_of(unsafe { raw::speldervacht_open(start_mut(table), length, rows, mode, threshold, settings_of(settings)) })
+}
+
+pub fn step(table: &mut [u64], orders: &mut [u64], list: &[u64], asked: &Asked) -> Answer {
+    let request = raw::Request {
+        kind: asked.kind,
+        address: asked.address,
+        size: asked.size,
+        settings: settings_of(&asked.settings),
+    };
+    let (table_words, order_words) = (table.len(), orders.len());
+    // SAFETY: the slices are ours for the call, and borrowed apart.
+    answer_of(unsafe {
+        raw::speldervacht_step(
+            start_mut(table),
+            table_words,
+            start_mut(orders),
+            order_words,
+            start(list),
+            list.len(),
+            request,
+        )
+    })
+}
+
+/// The number and the figures, which are all 0 where the number is not.
+pub fn report(table: &[u64]) -> (u64, Report, u64) {
+    // SAFETY: the slice is borrowed for the call.
+    let f = unsafe { raw::speldervacht_report(start(table), table.len()) };
+    let report = Report {
+        held: f.held,
+        dirty: f.dirty,
+        entries: f.entries,
+        maximum: f.maximum,
+        minimum_clean: f.clean,
+        count: f.count,
+        due: f.due == 1,
+        totals: f.totals,
+    };
+    (f.number, report, f.due)
+}

@@ -1,0 +1,834 @@
+//! The cache as the rules describe it: entries by address, and a queue of addresses for the recency
+//! list. Sums are taken anew wherever they are needed.
+
+use crate::reached::{Place, Reached};
+use std::collections::{BTreeMap, BTreeSet, VecDeque};
+
+pub const ALL_ONES: u64 = u64::MAX;
+pub const ROW_LIMIT: u64 = 4_096;
+pub const SIZE_LIMIT: u64 = 134_217_728;
+pub const THRESHOLD_LIMIT: u64 = 1_073_741_824;
+pub const COUNT_STOP: u64 = 1_099_511_627_776;
+pub const READER_LIMIT: u32 = 65_535;
+pub const IDLE_LIMIT: u64 = 10;
+
+/// The words that the orders of one request may need.
+pub fn order_words(rows: usize) -> usize {
+    3 * (2 * rows + 1)
+}
+
+#[derive(Clone, Copy, Debug, PartialEq, Eq)]
+pub enum Mode {
+    Alone,
+    Lead,
+    Standby,
+}
+
+#[derive(Clone, Copy, Debug, PartialEq)]
+pub enum Increase {
+    Off,
+    Threshold {
+        lower: f64,
+        multiplier: f64,
+    },
+    /// A kind that stands for nothing: on, and bad.
+    Unknown,
+}
+
+/// The cap on one change of the maximum.
+#[derive(Clone, Copy, Debug, PartialEq, Eq)]
+pub enum Cap {
+    None,
+    UpTo(u64),
+    Unknown,
+}
+
+#[derive(Clone, Copy, Debug, PartialEq)]
+pub enum Flash {
+    Off,
+    On { multiple: f64, threshold: f64 },
+    Unknown,
+}
+
+#[derive(Clone, Copy, Debug, PartialEq)]
+pub enum Decrease {
+    Off,
+    Threshold { upper: f64, multiplier: f64 },
+    AgeOut { epochs: u64, reserve: f64 },
+    AgeOutWithThreshold { upper: f64, epochs: u64, reserve: f64 },
+    Unknown,
+}
+
+#[derive(Clone, Copy, Debug, PartialEq)]
+pub struct Settings {
+    pub evictions: bool,
+    pub initial_is_set: bool,
+    pub initial_size: u64,
+    pub clean_fraction: f64,
+    pub maximum_size: u64,
+    pub minimum_size: u64,
+    pub epoch_length: u64,
+    pub increase: Increase,
+    pub increase_cap: Cap,
+    pub flash: Flash,
+    pub decrease: Decrease,
+    pub decrease_cap: Cap,
+}
+
+impl Settings {
+    pub fn default_values() -> Settings {
+        Settings {
+            evictions: true,
+            initial_is_set: true,
+            initial_size: 2_097_152,
+            clean_fraction: 0.3,
+            maximum_size: 33_554_432,
+            minimum_size: 1_048_576,
+            epoch_length: 50_000,
+            increase: Increase::Threshold { lower: 0.9, multiplier: 2.0 },
+            increase_cap: Cap::UpTo(4_194_304),
+            flash: Flash::On { multiple: 1.0, threshold: 0.25 },
+            decrease: Decrease::AgeOutWithThreshold { upper: 0.999, epochs: 3, reserve: 0.1 },
+            decrease_cap: Cap::UpTo(1_048_576),
+        }
+    }
+
+    /// The lowest bad field, if any.
+    pub fn bad_field(&self, opening: bool) -> Option<u64> {
+        let unit = |x: f64| (0.0..=1.0).contains(&x);
+        let any_rule = self.increase != Increase::Off || self.flash != Flash::Off || self.decrease != Decrease::Off;
+        if !self.evictions && any_rule {
+            return Some(1);
+        }
+        if opening && !self.initial_is_set {
+            return Some(2);
+        }
+        if self.initial_is_set && !(self.minimum_size <= self.initial_size && self.initial_size <= self.maximum_size) {
+            return Some(3);
+        }
+        if !unit(self.clean_fraction) {
+            return Some(4);
+        }
+        let size = |n: u64| (1_024..=SIZE_LIMIT).contains(&n);
+        if !size(self.maximum_size) {
+            return Some(5);
+        }
+        if !size(self.minimum_size) || self.minimum_size > self.maximum_size {
+            return Some(6);
+        }
+        if !(100..=1_000_000).contains(&self.epoch_length) {
+            return Some(7);
+        }
+        if self.increase == Increase::Unknown {
+            return Some(8);
+        }
+        if let Increase::Threshold { lower, multiplier } = self.increase {
+            let multiplier_is_good = multiplier > 1.0 && multiplier <= 2.0;
+            if !unit(lower) || !multiplier_is_good {
+                return Some(8);
+            }
+            let upper = match self.decrease {
+                Decrease::Threshold { upper, .. } | Decrease::AgeOutWithThreshold { upper, .. } => Some(upper),
+                _ => None,
+            };
+            let in_order = upper.is_none_or(|upper| lower < upper);
+            if !in_order {
+                return Some(8);
+            }
+        }
+        let cap = |c: Cap| match c {
+            Cap::None => true,
+            Cap::UpTo(bytes) => bytes <= SIZE_LIMIT,
+            Cap::Unknown => false,
+        };
+        if !cap(self.increase_cap) {
+            return Some(9);
+        }
+        if self.flash == Flash::Unknown {
+            return Some(10);
+        }
+        if let Flash::On { multiple, threshold } = self.flash {
+            if !(0.1..=10.0).contains(&multiple) || !(0.1..=1.0).contains(&threshold) {
+                return Some(10);
+            }
+        }
+        let decrease_is_good = match self.decrease {
+            Decrease::Off => true,
+            Decrease::Unknown => false,
+            Decrease::Threshold { upper, multiplier } => unit(upper) && unit(multiplier),
+            Decrease::AgeOut { epochs, reserve } => (1..=10).contains(&epochs) && unit(reserve),
+            Decrease::AgeOutWithThreshold { upper, epochs, reserve } => {
+                unit(upper) && (1..=10).contains(&epochs) && unit(reserve)
+            }
+        };
+        if !decrease_is_good {
+            return Some(11);
+        }
+        if !cap(self.decrease_cap) {
+            return Some(12);
+        }
+        None
+    }
+}
+
+#[derive(Clone, Copy, Debug, PartialEq, Eq)]
+pub enum Hold {
+    Free,
+    Readers(u32),
+    Writer,
+}
+
+#[derive(Clone, Copy, Debug, PartialEq, Eq)]
+pub struct Entry {
+    pub size: u64,
+    pub dirty: bool,
+    pub idle: u64,
+    pub pinned: bool,
+    pub hold: Hold,
+    pub row: usize,
+}
+
+impl Entry {
+    pub fn is_listed(&self) -> bool {
+        self.hold == Hold::Free && !self.pinned
+    }
+}
+
+#[derive(Clone, Copy, Debug, PartialEq)]
+pub enum Request {
+    Insert {
+        address: u64,
+        size: u64,
+    },
+    Protect {
+        writing: bool,
+        address: u64,
+        size: u64,
+    },
+    Release {
+        address: u64,
+        changed: Option<u64>,
+    },
+    Pin {
+        address: u64,
+    },
+    Unpin {
+        address: u64,
+    },
+    Resize {
+        address: u64,
+        size: u64,
+    },
+    Discard {
+        address: u64,
+    },
+    Flush,
+    Sync,
+    Take,
+    Configure(Settings),
+    /// A kind that stands for nothing.
+    Unknown,
+}
+
+#[derive(Clone, Copy, Debug, PartialEq, Eq)]
+pub enum Order {
+    Write { address: u64, size: u64 },
+    Evict { address: u64, size: u64 },
+    Load { address: u64, size: u64 },
+}
+
+impl Order {
+    pub fn words(&self) -> [u64; 3] {
+        match *self {
+            Order::Write { address, size } => [1, address, size],
+            Order::Evict { address, size } => [2, address, size],
+            Order::Load { address, size } => [3, address, size],
+        }
+    }
+}
+
+/// A refusal's number, with the field's number where it is 12.
+#[derive(Clone, Copy, Debug, PartialEq, Eq)]
+pub struct Refusal {
+    pub number: u64,
+    pub field: u64,
+}
+
+fn refused<T>(number: u64) -> Result<T, Refusal> {
+    Err(Refusal { number, field: 0 })
+}
+
+#[derive(Clone, Debug, PartialEq, Eq)]
+pub struct Report {
+    pub held: u64,
+    pub dirty: u64,
+    pub entries: u64,
+    pub maximum: u64,
+    pub minimum_clean: u64,
+    pub count: u64,
+    pub due: bool,
+    pub totals: [u64; 11],
+}
+
+#[derive(Clone, Debug)]
+pub struct Model {
+    pub rows: usize,
+    pub mode: Mode,
+    pub threshold: u64,
+    pub settings: Settings,
+    pub maximum: u64,
+    pub accesses: u64,
+    pub hits: u64,
+    pub count: u64,
+    pub entries: BTreeMap<u64, Entry>,
+    /// Front is the head, back is the tail.
+    pub recency: VecDeque<u64>,
+    /// How often each place of the rules was reached.
+    pub reached: Reached,
+}
+
+/// The whole part of a float as a size.
+fn whole(x: f64) -> u64 {
+    x as u64
+}
+
+/// The answer to opening: a mode that is none of the three is `None`.
+pub fn open(
+    rows: u64,
+    table_is_long_enough: bool,
+    mode: Option<Mode>,
+    threshold: u64,
+    settings: Settings,
+) -> Result<Model, Refusal> {
+    if !(1..=ROW_LIMIT).contains(&rows) || !table_is_long_enough {
+        return refused(1);
+    }
+    let mode = match mode {
+        Some(m) if (1..=THRESHOLD_LIMIT).contains(&threshold) => m,
+        _ => return refused(5),
+    };
+    if let Some(field) = settings.bad_field(true) {
+        return Err(Refusal { number: 12, field });
+    }
+    Ok(Model {
+        rows: rows as usize,
+        mode,
+        threshold,
+        settings,
+        maximum: settings.initial_size,
+        accesses: 0,
+        hits: 0,
+        count: 0,
+        entries: BTreeMap::new(),
+        recency: VecDeque::new(),
+        reached: Reached::default(),
+    })
+}
+
+impl Model {
+    // ---- figures
+
+    pub fn held(&self) -> u64 {
+        self.entries.values().map(|e| e.size).sum()
+    }
+
+    fn minimum_clean(&self) -> u64 {
+        whole(self.maximum as f64 * self.settings.clean_fraction)
+    }
+
+    pub fn report(&self) -> Report {
+        let mut totals = [0; 11];
+        for e in self.entries.values() {
+            totals[e.idle as usize] += e.size;
+        }
+        Report {
+            held: self.held(),
+            dirty: self.entries.values().filter(|e| e.dirty).map(|e| e.size).sum(),
+            entries: self.entries.len() as u64,
+            maximum: self.maximum,
+            minimum_clean: self.minimum_clean(),
+            count: self.count,
+            due: self.count > self.threshold,
+            totals,
+        }
+    }
+
+    /// The dirty records with their sizes.
+    pub fn dirty_records(&self) -> BTreeMap<u64, u64> {
+        self.entries.iter().filter(|(_, e)| e.dirty).map(|(a, e)| (*a, e.size)).collect()
+    }
+
+    fn lowest_free_row(&self) -> Option<usize> {
+        let mut used = vec![false; self.rows];
+        for e in self.entries.values() {
+            used[e.row] = true;
+        }
+        used.iter().position(|u| !u)
+    }
+
+    fn has_free_row(&self) -> bool {
+        self.entries.len() < self.rows
+    }
+
+    // ---- the recency list
+
+    fn unlist(&mut self, address: u64) {
+        self.recency.retain(|a| *a != address);
+    }
+
+    fn move_to_head(&mut self, address: u64) {
+        self.unlist(address);
+        self.recency.push_front(address);
+    }
+
+    // ---- orders
+
+    fn write(&mut self, address: u64, orders: &mut Vec<Order>) {
+        let e = self.entries.get_mut(&address).unwrap();
+        e.dirty = false;
+        orders.push(Order::Write { address, size: e.size });
+    }
+
+    fn evict(&mut self, address: u64, orders: &mut Vec<Order>) {
+        let e = self.entries.remove(&address).unwrap();
+        self.unlist(address);
+        orders.push(Order::Evict { address, size: e.size });
+    }
+
+    // ---- making room
+
+    fn nearest_tail(&self, dirty: bool) -> Option<u64> {
+        self.recency.iter().rev().copied().find(|a| self.entries[a].dirty == dirty)
+    }
+
+    /// From the tail, writes dirty entries of the recency list until the clean share is met.
+    fn write_until_share_is_met(&mut self, incoming: u64, orders: &mut Vec<Order>) {
+        let listed: Vec<u64> = self.recency.iter().rev().copied().collect();
+        let mut clean: u64 = listed.iter().map(|a| &self.entries[a]).filter(|e| !e.dirty).map(|e| e.size).sum();
+        let unused = self.maximum.saturating_sub(self.held() + incoming);
+        for a in listed {
+            if clean + unused >= self.minimum_clean() {
+                return;
+            }
+            let e = self.entries[&a];
+            if e.dirty {
+                self.write(a, orders);
+                clean += e.size;
+                self.reached.mark(Place::ShareWrite);
+            }
+        }
+        if clean + unused < self.minimum_clean() {
+            self.reached.mark(Place::ShareUnmet);
+        }
+    }
+
+    fn make_room(&mut self, incoming: u64, row: bool, orders: &mut Vec<Order>) {
+        if !self.settings.evictions {
+            return;
+        }
+        let mut held = self.held();
+        while held + incoming > self.maximum || (row && !self.has_free_row()) {
+            self.reached.mark(if held + incoming > self.maximum { Place::RoomByBytes } else { Place::RoomByRows });
+            let wanted = match self.mode {
+                Mode::Alone => self.recency.back().copied(),
+                _ => self.nearest_tail(false),
+            };
+            let Some(a) = wanted else {
+                self.reached.mark(Place::NothingToGive);
+                break;
+            };
+            let e = self.entries[&a];
+            if e.dirty {
+                self.write(a, orders);
+                self.move_to_head(a);
+                self.reached.mark(Place::TailMoved);
+            } else {
+                self.evict(a, orders);
+                held -= e.size;
+                self.reached.mark(Place::RoomEvict);
+            }
+        }
+        if self.mode == Mode::Alone {
+            self.write_until_share_is_met(incoming, orders);
+        }
+    }
+
+    // ---- resizing
+
+    fn restart(&mut self) {
+        self.accesses = 0;
+        self.hits = 0;
+    }
+
+    fn flash(&mut self, x: u64) {
+        if let Flash::On { multiple, threshold } = self.settings.flash {
+            if x as f64 > threshold * self.maximum as f64 {
+                let free = self.maximum.saturating_sub(self.held());
+                let rise = whole(x as f64 * multiple).saturating_sub(free);
+                let raised = (self.maximum + rise).min(self.settings.maximum_size);
+                if raised > self.maximum {
+                    self.reached.mark(if raised < self.maximum + rise {
+                        Place::FlashToLimit
+                    } else {
+                        Place::FlashRise
+                    });
+                    self.maximum = raised;
+                    self.restart();
+                } else {
+                    self.reached.mark(Place::FlashNoRise);
+                }
+            }
+        }
+    }
+
+    fn count_access(&mut self, hit: bool, orders: &mut Vec<Order>) {
+        if self.settings.increase == Increase::Off && self.settings.decrease == Decrease::Off {
+            return;
+        }
+        self.accesses += 1;
+        if hit {
+            self.hits += 1;
+        }
+        self.reached.mark(if hit { Place::Hit } else { Place::Miss });
+        if self.accesses == self.settings.epoch_length {
+            self.end_epoch(orders);
+        }
+    }
+
+    fn end_epoch(&mut self, orders: &mut Vec<Order>) {
+        self.reached.mark(Place::EpochEnd);
+        let rate = self.hits as f64 / self.accesses as f64;
+        let before = self.maximum;
+        if let Increase::Threshold { lower, multiplier } = self.settings.increase {
+            if rate < lower && self.held() >= self.maximum {
+                let mut n = whole(self.maximum as f64 * multiplier).min(self.settings.maximum_size);
+                if let Cap::UpTo(cap) = self.settings.increase_cap {
+                    if before + cap < n {
+                        n = before + cap;
+                        self.reached.mark(Place::IncreaseCapped);
+                    }
+                }
+                self.maximum = n;
+                self.reached.mark(if n > before { Place::Increase } else { Place::IncreaseToNothing });
+            }
+        }
+        if self.maximum == before {
+            match self.settings.decrease {
+                Decrease::Off | Decrease::Unknown => {}
+                Decrease::Threshold { upper, multiplier } => {
+                    if rate > upper {
+                        self.reached.mark(Place::ThresholdDecrease);
+                        self.lower(whole(self.maximum as f64 * multiplier));
+                    }
+                }
+                Decrease::AgeOut { epochs, reserve } => self.age_out(epochs, reserve, orders),
+                Decrease::AgeOutWithThreshold { upper, epochs, reserve } => {
+                    if rate > upper {
+                        self.age_out(epochs, reserve, orders);
+                    }
+                }
+            }
+        }
+        for e in self.entries.values_mut() {
+            e.idle = (e.idle + 1).min(IDLE_LIMIT);
+        }
+        self.restart();
+        self.make_room(0, false, orders);
+    }
+
+    fn age_out(&mut self, epochs: u64, reserve: f64, orders: &mut Vec<Order>) {
+        self.reached.mark(Place::AgeOut);
+        let walk: Vec<u64> = self.recency.iter().rev().copied().collect();
+        for a in walk {
+            let e = self.entries[&a];
+            if e.idle < epochs {
+                continue;
+            }
+            if e.dirty {
+                if self.mode != Mode::Alone {
+                    self.reached.mark(Place::AgeOutKept);
+                    continue;
+                }
+                self.write(a, orders);
+                self.reached.mark(Place::AgeOutWrite);
+            }
+            self.evict(a, orders);
+            self.reached.mark(Place::AgeOutEvict);
+        }
+        if reserve == 1.0 {
+            self.reached.mark(Place::ReserveOne);
+        } else {
+            let kept = 1.0 - reserve;
+            self.lower(whole(self.held() as f64 / kept));
+        }
+    }
+
+    fn lower(&mut self, target: u64) {
+        if target < self.maximum {
+            let mut t = target;
+            if t < self.settings.minimum_size {
+                t = self.settings.minimum_size;
+                self.reached.mark(Place::DecreaseToMinimum);
+            }
+            if let Cap::UpTo(cap) = self.settings.decrease_cap {
+                if t < self.maximum.saturating_sub(cap) {
+                    t = self.maximum.saturating_sub(cap);
+                    self.reached.mark(Place::DecreaseCapped);
+                }
+            }
+            if t < self.maximum {
+                self.maximum = t;
+                self.reached.mark(Place::Decrease);
+            } else {
+                self.reached.mark(Place::DecreaseToNothing);
+            }
+        }
+    }
+
+    // ---- requests
+
+    fn add_to_count(&mut self, size: u64) {
+        if self.count + size > COUNT_STOP {
+            self.reached.mark(Place::CountStopped);
+        }
+        self.count = (self.count + size).min(COUNT_STOP);
+    }
+
+    fn may_give_orders(request: &Request) -> bool {
+        matches!(
+            request,
+            Request::Insert { .. }
+                | Request::Protect { .. }
+                | Request::Release { .. }
+                | Request::Flush
+                | Request::Sync
+                | Request::Configure(_)
+        )
+    }
+
+    /// Whether a row is wanted in vain.
+    pub fn no_row(&self) -> bool {
+        if self.has_free_row() {
+            return false;
+        }
+        if !self.settings.evictions {
+            return true;
+        }
+        match self.mode {
+            Mode::Alone => self.recency.is_empty(),
+            _ => self.nearest_tail(false).is_none(),
+        }
+    }
+
+    /// The refusal of a request, judged on the state before it.
+    pub fn refusal(&self, request: &Request, list: &[u64], lent: usize) -> Option<Refusal> {
+        let mut found: Vec<(u64, u64)> = Vec::new();
+        let mut refuse = |when: bool, number: u64| {
+            if when {
+                found.push((number, 0));
+            }
+        };
+        refuse(Self::may_give_orders(request) && lent < order_words(self.rows), 2);
+        let bad_size = |s: u64| !(1..=SIZE_LIMIT).contains(&s);
+        let entry = |a: u64| self.entries.get(&a);
+        match *request {
+            Request::Insert { address, size } => {
+                refuse(address == ALL_ONES, 3);
+                refuse(bad_size(size), 4);
+                refuse(entry(address).is_some(), 7);
+                refuse(self.no_row(), 11);
+            }
+            Request::Protect { writing, address, size } => {
+                refuse(address == ALL_ONES, 3);
+                refuse(bad_size(size), 4);
+                match entry(address) {
+                    Some(e) => {
+                        let joins = match e.hold {
+                            Hold::Free => true,
+                            Hold::Readers(n) => !writing && n < READER_LIMIT,
+                            Hold::Writer => false,
+                        };
+                        refuse(!joins, 8);
+                    }
+                    None => refuse(self.no_row(), 11),
+                }
+            }
+            Request::Release { address, changed } => {
+                refuse(address == ALL_ONES, 3);
+                refuse(changed.is_some_and(bad_size), 4);
+                match entry(address) {
+                    None => refuse(true, 6),
+                    Some(e) => {
+                        refuse(changed.is_some() && matches!(e.hold, Hold::Readers(_)), 8);
+                        refuse(e.hold == Hold::Free, 9);
+                    }
+                }
+            }
+            Request::Pin { address } => {
+                refuse(address == ALL_ONES, 3);
+                match entry(address) {
+                    None => refuse(true, 6),
+                    Some(e) => {
+                        refuse(e.hold == Hold::Free, 9);
+                        refuse(e.pinned, 10);
+                    }
+                }
+            }
+            Request::Unpin { address } => {
+                refuse(address == ALL_ONES, 3);
+                match entry(address) {
+                    None => refuse(true, 6),
+                    Some(e) => refuse(!e.pinned, 10),
+                }
+            }
+            Request::Resize { address, size } => {
+                refuse(address == ALL_ONES, 3);
+                refuse(bad_size(size), 4);
+                match entry(address) {
+                    None => refuse(true, 6),
+                    Some(e) => {
+                        refuse(matches!(e.hold, Hold::Readers(_)), 8);
+                        refuse(!e.pinned && e.hold != Hold::Writer, 9);
+                    }
+                }
+            }
+            Request::Discard { address } => {
+                refuse(address == ALL_ONES, 3);
+                if let Some(e) = entry(address) {
+                    refuse(e.hold != Hold::Free, 8);
+                    refuse(e.pinned, 10);
+                }
+            }
+            Request::Flush => {
+                refuse(self.mode == Mode::Standby, 5);
+                refuse(self.entries.values().any(|e| e.hold != Hold::Free), 8);
+            }
+            Request::Sync => refuse(self.mode != Mode::Lead, 5),
+            Request::Take => {
+                refuse(list.contains(&ALL_ONES), 3);
+                refuse(self.mode != Mode::Standby, 5);
+                let mut seen = BTreeSet::new();
+                refuse(list.iter().any(|a| !seen.insert(*a) || !entry(*a).is_some_and(|e| e.dirty)), 13);
+            }
+            Request::Configure(s) => {
+                if let Some(field) = s.bad_field(false) {
+                    found.push((12, field));
+                }
+            }
+            Request::Unknown => refuse(true, 5),
+        }
+        found.into_iter().min().map(|(number, field)| Refusal { number, field })
+    }
+
+    /// One request: its orders, or its refusal with nothing changed.
+    pub fn step(&mut self, request: &Request, list: &[u64], lent: usize) -> Result<Vec<Order>, Refusal> {
+        if let Some(r) = self.refusal(request, list, lent) {
+            return Err(r);
+        }
+        let mut orders = Vec::new();
+        match *request {
+            Request::Insert { address, size } => {
+                self.flash(size);
+                self.make_room(size, true, &mut orders);
+                self.place(address, Entry { size, dirty: true, idle: 0, pinned: false, hold: Hold::Free, row: 0 });
+                self.move_to_head(address);
+                self.add_to_count(size);
+            }
+            Request::Protect { writing, address, size } => {
+                let fresh_hold = if writing { Hold::Writer } else { Hold::Readers(1) };
+                let hit = self.entries.contains_key(&address);
+                if hit {
+                    self.unlist(address);
+                    let e = self.entries.get_mut(&address).unwrap();
+                    e.hold = match e.hold {
+                        Hold::Readers(n) => Hold::Readers(n + 1),
+                        _ => fresh_hold,
+                    };
+                    e.idle = 0;
+                    if matches!(e.hold, Hold::Readers(n) if n > 1) {
+                        self.reached.mark(Place::ReaderJoins);
+                    }
+                } else {
+                    self.flash(size);
+                    self.make_room(size, true, &mut orders);
+                    orders.push(Order::Load { address, size });
+                    self.place(address, Entry { size, dirty: false, idle: 0, pinned: false, hold: fresh_hold, row: 0 });
+                }
+                self.count_access(hit, &mut orders);
+            }
+            Request::Release { address, changed } => {
+                if let Some(size) = changed {
+                    self.take_size(address, size);
+                }
+                let e = self.entries.get_mut(&address).unwrap();
+                e.hold = match e.hold {
+                    Hold::Readers(n) if n > 1 => Hold::Readers(n - 1),
+                    _ => Hold::Free,
+                };
+                if e.hold == Hold::Free {
+                    e.idle = 0;
+                    if !e.pinned {
+                        self.move_to_head(address);
+                    }
+                    self.make_room(0, false, &mut orders);
+                }
+            }
+            Request::Pin { address } => self.entries.get_mut(&address).unwrap().pinned = true,
+            Request::Unpin { address } => {
+                let e = self.entries.get_mut(&address).unwrap();
+                e.pinned = false;
+                if e.is_listed() {
+                    self.move_to_head(address);
+                }
+            }
+            Request::Resize { address, size } => self.take_size(address, size),
+            Request::Discard { address } => {
+                self.entries.remove(&address);
+                self.unlist(address);
+            }
+            Request::Flush => {
+                let dirty: Vec<u64> = self.dirty_records().into_keys().collect();
+                for a in dirty {
+                    self.write(a, &mut orders);
+                }
+                self.count = 0;
+            }
+            Request::Sync => {
+                self.write_until_share_is_met(0, &mut orders);
+                self.count = 0;
+            }
+            Request::Take => {
+                for a in list {
+                    self.entries.get_mut(a).unwrap().dirty = false;
+                }
+                self.count = 0;
+            }
+            Request::Configure(s) => {
+                self.settings = s;
+                self.maximum =
+                    if s.initial_is_set { s.initial_size } else { self.maximum.clamp(s.minimum_size, s.maximum_size) };
+                self.restart();
+                self.make_room(0, false, &mut orders);
+            }
+            Request::Unknown => {}
+        }
+        Ok(orders)
+    }
+
+    fn place(&mut self, address: u64, entry: Entry) {
+        let row = self.lowest_free_row().expect("a row is free");
+        self.entries.insert(address, Entry { row, ..entry });
+    }
+
+    /// A changed release or a resize: the flash by the growth, the byte count if the entry was clean, the size, dirty.
+    fn take_size(&mut self, address: u64, size: u64) {
+        let before = self.entries[&address];
+        self.flash(size.saturating_sub(before.size));
+        if !before.dirty {
+            self.add_to_count(size);
+        }
+        let e = self.entries.get_mut(&address).unwrap();
+        e.size = size;
+        e.dirty = true;
+    }
+}

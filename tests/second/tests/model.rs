@@ -1,0 +1,183 @@
+//! The model gives the worked cases of the rules, and the judge and the picture are each other's
+//! inverse.
+
+use second::model::{
+    self, order_words, Cap, Decrease, Flash, Increase, Mode, Model, Order, Request, Settings, ALL_ONES,
+};
+use second::random::Random;
+use second::requests::{self, Scale};
+use second::table::{judge, picture, table_words};
+
+fn small_settings() -> Settings {
+    Settings {
+        initial_size: 4_096,
+        clean_fraction: 0.0,
+        maximum_size: 16_384,
+        minimum_size: 1_024,
+        epoch_length: 100,
+        increase: Increase::Off,
+        increase_cap: Cap::None,
+        flash: Flash::Off,
+        decrease: Decrease::Off,
+        decrease_cap: Cap::None,
+        ..Settings::default_values()
+    }
+}
+
+fn open(rows: u64, mode: Mode, threshold: u64, settings: Settings) -> Model {
+    model::open(rows, true, Some(mode), threshold, settings).unwrap()
+}
+
+fn small() -> Model {
+    open(4, Mode::Alone, 262_144, small_settings())
+}
+
+fn ask(m: &mut Model, request: Request) -> Result<Vec<Order>, u64> {
+    m.step(&request, &[], order_words(m.rows)).map_err(|r| r.number)
+}
+
+fn insert(m: &mut Model, address: u64, size: u64) -> Result<Vec<Order>, u64> {
+    ask(m, Request::Insert { address, size })
+}
+
+fn read(m: &mut Model, address: u64, size: u64) -> Result<Vec<Order>, u64> {
+    ask(m, Request::Protect { writing: false, address, size })
+}
+
+fn release(m: &mut Model, address: u64) -> Result<Vec<Order>, u64> {
+    ask(m, Request::Release { address, changed: None })
+}
+
+fn p1_orders() -> Vec<Order> {
+    vec![
+        Order::Write { address: 100, size: 3_000 },
+        Order::Write { address: 200, size: 1_000 },
+        Order::Evict { address: 100, size: 3_000 },
+    ]
+}
+
+#[test]
+fn p1_and_p2() {
+    for (size, given) in [(500, p1_orders()), (96, vec![]), (97, p1_orders())] {
+        let mut m = small();
+        assert_eq!(insert(&mut m, 100, 3_000), Ok(vec![]));
+        assert_eq!(insert(&mut m, 200, 1_000), Ok(vec![]));
+        assert_eq!(insert(&mut m, 300, size), Ok(given));
+        if size == 500 {
+            assert_eq!(m.recency, [300, 200]);
+            assert_eq!((m.report().held, m.report().dirty), (1_500, 500));
+        }
+    }
+}
+
+#[test]
+fn p3_and_p4() {
+    let mut m = open(1, Mode::Alone, 1, small_settings());
+    read(&mut m, 100, 10).unwrap();
+    ask(&mut m, Request::Pin { address: 100 }).unwrap();
+    release(&mut m, 100).unwrap();
+    assert_eq!(insert(&mut m, 200, 10), Err(11));
+    ask(&mut m, Request::Unpin { address: 100 }).unwrap();
+    assert!(insert(&mut m, 200, 10).is_ok());
+    let mut m = small();
+    read(&mut m, 100, 10).unwrap();
+    read(&mut m, 100, 10).unwrap();
+    release(&mut m, 100).unwrap();
+    assert_eq!(ask(&mut m, Request::Discard { address: 100 }), Err(8));
+}
+
+/// The maximum after an epoch with so many hits of 100, so many bytes held throughout.
+fn after_epoch(settings: Settings, hits: u64, held: u64) -> u64 {
+    let mut m = open(4, Mode::Alone, 1, settings);
+    insert(&mut m, 1, held).unwrap();
+    m.accesses = 99;
+    m.hits = hits - 1;
+    m.settings.clean_fraction = 0.0;
+    read(&mut m, 1, held).unwrap();
+    assert_eq!((m.accesses, m.hits), (0, 0));
+    m.maximum
+}
+
+#[test]
+fn p5_and_p6() {
+    let by = |multiplier| Settings { increase: Increase::Threshold { lower: 0.9, multiplier }, ..small_settings() };
+    assert_eq!(after_epoch(by(1.5), 89, 4_096), 6_144);
+    assert_eq!(after_epoch(by(1.1), 89, 4_096), 4_505);
+    assert_eq!(after_epoch(by(1.5), 90, 4_096), 4_096);
+    assert_eq!(after_epoch(by(1.5), 89, 4_095), 4_096);
+}
+
+#[test]
+fn p7() {
+    let settings = Settings { decrease: Decrease::AgeOut { epochs: 10, reserve: 0.25 }, ..small_settings() };
+    assert_eq!(after_epoch(settings, 50, 3_000), 4_000);
+    assert_eq!(after_epoch(settings, 50, 3_072), 4_096);
+}
+
+#[test]
+fn p8() {
+    for (multiple, size, maximum) in [(1.0, 1_024, 4_096), (1.0, 1_025, 5_025), (2.0, 1_025, 6_050)] {
+        let settings = Settings { flash: Flash::On { multiple, threshold: 0.25 }, ..small_settings() };
+        let mut m = open(8, Mode::Alone, 1, settings);
+        for address in 0..4 {
+            insert(&mut m, address, 1_000).unwrap();
+        }
+        insert(&mut m, 9, size).unwrap();
+        assert_eq!(m.maximum, maximum);
+    }
+}
+
+#[test]
+fn p9_to_p11() {
+    let mut m = open(4, Mode::Lead, 1_000, small_settings());
+    insert(&mut m, 1, 1_000).unwrap();
+    assert!(!m.report().due);
+    insert(&mut m, 2, 200).unwrap();
+    assert!(m.report().due);
+    let mut m = open(4, Mode::Standby, 1_000, small_settings());
+    insert(&mut m, 100, 1).unwrap();
+    assert_eq!(m.step(&Request::Take, &[100, 100], 0).unwrap_err().number, 13);
+    assert_eq!(insert(&mut m, ALL_ONES, 0), Err(3));
+    let mut m = open(2, Mode::Lead, 1_000, small_settings());
+    insert(&mut m, 1, 100).unwrap();
+    insert(&mut m, 2, 100).unwrap();
+    assert_eq!(insert(&mut m, 3, 100), Err(11));
+    ask(&mut m, Request::Flush).unwrap();
+    assert_eq!(insert(&mut m, 3, 100), Ok(vec![Order::Evict { address: 1, size: 100 }]));
+}
+
+#[test]
+fn an_entry_used_in_one_epoch_goes_at_the_end_of_the_next() {
+    let settings = Settings { decrease: Decrease::AgeOut { epochs: 1, reserve: 1.0 }, ..small_settings() };
+    let mut m = open(4, Mode::Alone, 1, settings);
+    insert(&mut m, 1, 10).unwrap();
+    for access in 1..=200 {
+        read(&mut m, 2, 10).unwrap();
+        release(&mut m, 2).unwrap();
+        assert_eq!(m.entries.contains_key(&1), access < 200);
+    }
+}
+
+#[test]
+fn the_judge_finds_what_was_pictured() {
+    let mut r = Random::new(5);
+    for _ in 0..3_000 {
+        let rows = r.between(1, 40) as usize;
+        let scale = Scale::any(&mut r);
+        let mode = r.pick(&[Mode::Alone, Mode::Lead, Mode::Standby]);
+        let state = requests::state(&mut r, rows, mode, scale);
+        let mut words = picture(&state);
+        assert_eq!(words.len(), table_words(rows));
+        let judged = judge(&words).unwrap();
+        assert_eq!((judged.entries, judged.recency), (state.entries, state.recency));
+        assert!(judge(&words[..words.len() - 1]).is_none());
+        // Damaged words picture nothing, or they are the picture of what they picture.
+        for (at, word) in requests::damage(&mut r, &words, rows) {
+            words[at] = word;
+        }
+        if let Some(judged) = judge(&words) {
+            let again = picture(&judged);
+            assert_eq!(again, words[..again.len()]);
+        }
+    }
+}
