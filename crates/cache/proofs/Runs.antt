@@ -83,6 +83,13 @@ opens n m t s h =
 
 -- ---- the run
 
+module _ {t : ℕ} {a b : Cache} {l : Ledger} {p : Pending} (k : OnTables t a b l p) where
+  lead-on : {ws : List ℕ} {c : Cache} {m : Ledger} {q : Pending} → Pictures ws c → TableRun t ws (k .standby) m q → OnTables t c b m q
+  lead-on x r = record { lead = _; standby = _; lead-pictures = x; standby-pictures = k .standby-pictures; run = r }
+
+  standby-on : {ws : List ℕ} {c : Cache} {m : Ledger} {q : Pending} → Pictures ws c → TableRun t (k .lead) ws m q → OnTables t a c m q
+  standby-on x r = record { lead = _; standby = _; lead-pictures = k .lead-pictures; standby-pictures = x; run = r }
+
 pub on-tables : {t : ℕ} {a b : Cache} {l : Ledger} {p : Pending} (r : Run t a b l p) → RunFits r → OnTables t a b l p
 on-tables {t} (Run.opened n m s u h k) f =
     let i = opens n Lead t s h in
@@ -96,102 +103,43 @@ on-tables {t} (Run.opened n m s u h k) f =
     }
 on-tables (Run.lead-local call h r) f =
     let k = on-tables r (f .1) in
-    record {
-      lead = _;
-      standby = _;
-      lead-pictures = pictures (k .lead-pictures) call (f .0);
-      standby-pictures = k .standby-pictures;
-      run = TableRun.lead-local (blank (call .lent)) (call .list) (call .request) h (f .0) (k .run);
-    }
+    lead-on k (pictures (k .lead-pictures) call (f .0)) (TableRun.lead-local (blank (call .lent)) (call .list) (call .request) h (f .0) (k .run))
 on-tables (Run.standby-local call h r) f =
     let k = on-tables r (f .1) in
-    record {
-      lead = _;
-      standby = _;
-      lead-pictures = k .lead-pictures;
-      standby-pictures = pictures (k .standby-pictures) call (f .0);
-      run = TableRun.standby-local (blank (call .lent)) (call .list) (call .request) h (f .0) (k .run);
-    }
+    standby-on k (pictures (k .standby-pictures) call (f .0)) (TableRun.standby-local (blank (call .lent)) (call .list) (call .request) h (f .0) (k .run))
 on-tables (Run.lead-refuses call h r) f =
     let k = on-tables r f in
-    record {
-      lead = _;
-      standby = _;
-      lead-pictures = pictures-not (k .lead-pictures) call h;
-      standby-pictures = k .standby-pictures;
-      run = TableRun.lead-refuses (blank (call .lent)) (call .list) (call .request) (tells (k .lead-pictures) call ∙ h) (k .run);
-    }
+    lead-on k (pictures-not (k .lead-pictures) call h) (TableRun.lead-refuses (blank (call .lent)) (call .list) (call .request) (tells (k .lead-pictures) call ∙ h) (k .run))
 on-tables (Run.standby-refuses call h r) f =
     let k = on-tables r f in
-    record {
-      lead = _;
-      standby = _;
-      lead-pictures = k .lead-pictures;
-      standby-pictures = pictures-not (k .standby-pictures) call h;
-      run = TableRun.standby-refuses (blank (call .lent)) (call .list) (call .request) (tells (k .standby-pictures) call ∙ h) (k .run);
-    }
-on-tables {t} (Run.lead-first {r = q} h list lent r) f =
+    standby-on k (pictures-not (k .standby-pictures) call h) (TableRun.standby-refuses (blank (call .lent)) (call .list) (call .request) (tells (k .standby-pictures) call ∙ h) (k .run))
+on-tables (Run.lead-first {r = q} h list lent r) f =
     let k = on-tables r f in
     let call = asking q list lent in
-    record {
-      lead = _;
-      standby = _;
-      lead-pictures = pictures (k .lead-pictures) call (shared-floats h);
-      standby-pictures = k .standby-pictures;
-      run = rw (← tells (k .lead-pictures) call) (TableRun.lead-first h (blank lent) list (k .run));
-    }
+    lead-on k (pictures (k .lead-pictures) call (shared-floats h)) (rw (← tells (k .lead-pictures) call) (TableRun.lead-first h (blank lent) list (k .run)))
 on-tables (Run.standby-second {r = q} h list lent ok e r) f =
     let k = on-tables r f in
     let call = asking q list lent in
-    record {
-      lead = _;
-      standby = _;
-      lead-pictures = k .lead-pictures;
-      standby-pictures = pictures (k .standby-pictures) call (shared-floats h);
-      run = TableRun.standby-second h (blank lent) list ok (tells (k .standby-pictures) call ∙ e) (k .run);
-    }
+    standby-on k (pictures (k .standby-pictures) call (shared-floats h)) (TableRun.standby-second h (blank lent) list ok (tells (k .standby-pictures) call ∙ e) (k .run))
 on-tables (Run.standby-first {r = q} h list lent r) f =
     let k = on-tables r f in
     let call = asking q list lent in
-    record {
-      lead = _;
-      standby = _;
-      lead-pictures = k .lead-pictures;
-      standby-pictures = pictures (k .standby-pictures) call (shared-floats h);
-      run = rw (← tells (k .standby-pictures) call) (TableRun.standby-first h (blank lent) list (k .run));
-    }
+    standby-on k (pictures (k .standby-pictures) call (shared-floats h)) (rw (← tells (k .standby-pictures) call) (TableRun.standby-first h (blank lent) list (k .run)))
 on-tables (Run.lead-second {r = q} h list lent ok e r) f =
     let k = on-tables r f in
     let call = asking q list lent in
-    record {
-      lead = _;
-      standby = _;
-      lead-pictures = pictures (k .lead-pictures) call (shared-floats h);
-      standby-pictures = k .standby-pictures;
-      run = TableRun.lead-second h (blank lent) list ok (tells (k .lead-pictures) call ∙ e) (k .run);
-    }
+    lead-on k (pictures (k .lead-pictures) call (shared-floats h)) (TableRun.lead-second h (blank lent) list ok (tells (k .lead-pictures) call ∙ e) (k .run))
 on-tables (Run.lead-sends call h e r) f =
     let k = on-tables r f in
     let x = k .lead-pictures in
     let a = tells x call ∙ e in
-    record {
-      lead = _;
-      standby = _;
-      lead-pictures = pictures x call (sends-floats h);
-      standby-pictures = k .standby-pictures;
-      run = rw (← ap sentBy (same-step x call), ← list-sent (k .lead) (blank (call .lent)) (call .list) h (x .passes) a)
-          (TableRun.lead-sends h (blank (call .lent)) (call .list) a (k .run));
-    }
+    lead-on k (pictures x call (sends-floats h))
+    (rw (← ap sentBy (same-step x call), ← list-sent (k .lead) (blank (call .lent)) (call .list) h (x .passes) a)
+    (TableRun.lead-sends h (blank (call .lent)) (call .list) a (k .run)))
 on-tables (Run.standby-takes list lent e r) f =
     let k = on-tables r f in
     let call = asking Take list lent in
-    record {
-      lead = _;
-      standby = _;
-      lead-pictures = k .lead-pictures;
-      standby-pictures = pictures (k .standby-pictures) call tt;
-      run = TableRun.standby-takes (blank lent) list (tells (k .standby-pictures) call ∙ e) (k .run);
-    }
+    standby-on k (pictures (k .standby-pictures) call tt) (TableRun.standby-takes (blank lent) list (tells (k .standby-pictures) call ∙ e) (k .run))
 
 -- ---- such runs exist
 

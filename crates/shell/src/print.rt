@@ -1,6 +1,5 @@
 // What is printed.
-ghost use mathlib.Core.Path.{_≡_};
-ghost use Rattle.rules.specs.Answers.{refusalNumber};
+use answers::refusal_number;
 use libc::STDOUT_FILENO;
 use rules::answer::Answer;
 use rules::answer::Refusal;
@@ -46,28 +45,8 @@ fn orders(words: &[u64], count: u64) {
     }
 }
 
-fn number_of(r: Refusal) -> u64
-    ensures { λ n. ⌜ n ≡ refusalNumber r ⌝ }
-{
-    match r {
-        Refusal::Table => 1,
-        Refusal::OrderWords => 2,
-        Refusal::Address => 3,
-        Refusal::Size => 4,
-        Refusal::Mode => 5,
-        Refusal::Absent => 6,
-        Refusal::Present => 7,
-        Refusal::Held => 8,
-        Refusal::Unheld => 9,
-        Refusal::Pinned => 10,
-        Refusal::Full => 11,
-        Refusal::Setting(_) => 12,
-        Refusal::List => 13,
-    }
-}
-
 pub fn refusal(r: Refusal) {
-    number(b"refused ", number_of(r));
+    number(b"refused ", refusal_number(r));
     text(b"\n");
 }
 
