@@ -1,7 +1,7 @@
--- The loops of age-out: what the rule does from a place on is what it does from the start.
-use Prim.Native.Nat.{ℕ, zero, suc, _+_, _-_, _<_, _≤_}
+-- The loop of age-out: what the rule does from a place on is what it does from the start.
+use Prim.Native.Nat.{ℕ, suc, _+_, _-_, _<_, _≤_}
 use mathlib.Core.Bool.{Bool, true, false, not, true≢false}
-use mathlib.Core.List.{List, [], _∷_}
+use mathlib.Core.List.{List, []}
 use mathlib.Core.Option.{Option, none, some, Option·map}
 use mathlib.Core.Path.{_≡_, refl, sym, ap, subst, _∙_}
 use native.Mathlib.Numerals.{add-one}
@@ -11,6 +11,7 @@ use lib.ListN.{length, getD, drop, drop-of-length-le}
 use lib.Seq.{drop-cons}
 use borrow.Author.Tests.{eq-eqb, not-true, not-false}
 use Rattle.rules.proofs.Found.{get-amend, length-remove, length-amend}
+use Rattle.rules.proofs.Moved.{left}
 use Rattle.rules.proofs.Moves.{mayWrite}
 use Rattle.rules.specs.Cache.{Cache, Work, start, give, amendAt}
 use Rattle.rules.specs.Entries.{if_then_else_, cleaned}
@@ -37,13 +38,13 @@ use Rattle.room.specs.Did.{Did, Fits}
 pub told-aged : (o : Option Entry) (e : Entry) (n : ℕ) → o ≡ some e → leb n (e .idle) ≡ passes (λ x. leb n (x .idle)) o
 told-aged o e n p = rw p
 
--- the test as it came out
+-- a test that the code negates, as it came out
 module _ {r t : Bool} (e : r ≡ t) where
-  pub is-aged : not r ≡ false → t ≡ true
-  is-aged h = sym e ∙ not-false r h
+  pub is-so : not r ≡ false → t ≡ true
+  is-so h = sym e ∙ not-false r h
 
-  pub is-young : not r ≡ true → t ≡ false
-  is-young h = sym e ∙ not-true r h
+  pub is-not : not r ≡ true → t ≡ false
+  is-not h = sym e ∙ not-true r h
 
 -- a clean entry is evicted in every mode
 expel-clean : (m : Mode) (a : ℕ) (w : Work) → dirtyAt (w .cache .rows) a ≡ false → expel m a w ≡ evict a w
@@ -57,9 +58,11 @@ expel-dirty Alone a w h d = absurd (true≢false h)
 expel-dirty Lead a w h d = ap (λ (b : Bool). if b then w else evict a w) d
 expel-dirty Standby a w h d = ap (λ (b : Bool). if b then w else evict a w) d
 
-expel-alone : (m : Mode) (a : ℕ) (w : Work) → m ≡ Alone → dirtyAt (w .cache .rows) a ≡ true → expel m a w ≡ evict a (writeInPlace a w)
-expel-alone m a w h d =
-    ap (λ (x : Mode). expel x a w) h ∙ ap (λ (b : Bool). if b then evict a (writeInPlace a w) else evict a w) d
+-- and written before it goes where writing is allowed
+expel-written : (m : Mode) (a : ℕ) (w : Work) → mayWrite m ≡ true → dirtyAt (w .cache .rows) a ≡ true → expel m a w ≡ evict a (writeInPlace a w)
+expel-written Alone a w h d = ap (λ (b : Bool). if b then evict a (writeInPlace a w) else evict a w) d
+expel-written Lead a w h d = absurd (true≢false (sym h))
+expel-written Standby a w h d = absurd (true≢false (sym h))
 
 -- a write keeps the idle count, and the entry is clean then
 module _ (a : ℕ) (rows : List Row) where
@@ -96,80 +99,87 @@ module _ (n : ℕ) (c : Cache) (orders : List Order) (pos : ℕ) (low : pos < le
       → evictAged n (drop pos (c .recency)) (work c orders) ≡ evictAged n (drop (suc pos) (c .recency)) v
   goes h e = looks true h ∙ ap (evictAged n (drop (suc pos) (c .recency))) e
 
--- ---- what the loops keep
+-- ---- what the loop keeps
 
-pub record Aging (n : ℕ) (c₀ : Cache) (rows before : ℕ) (rest lent table words : List ℕ) (listed pos given : ℕ) (c : Cache) : Type 0 where
+pub record Aging (n : ℕ) (writes : Bool) (c₀ : Cache) (rows before : ℕ) (rest lent table words : List ℕ) (listed pos given : ℕ) (c : Cache) : Type 0 where
   pub orders : List Order
   pub kept : Kept rows before rest lent table words given c orders
-  pub mode-is : c .mode ≡ c₀ .mode
+  pub may : writes ≡ mayWrite (c .mode)
   pub listed-is : listed ≡ length (c .recency)
   pub low : pos ≤ listed
   pub to-do : evictAged n (drop pos (c .recency)) (work c orders) ≡ evictAged n (c₀ .recency) (start c₀)
 
-pub aging-start : {rows before : ℕ} {table lent : List ℕ} {listed : ℕ} (n : ℕ) → GoodRows table rows → Fits (cacheIn table) before lent → listed ≡ length (cacheIn table .recency)
-    → Aging n (cacheIn table) rows before (restIn table) lent table lent listed 0 before (cacheIn table)
-aging-start n g f l = record { orders = []; kept = kept-start g f; mode-is = refl; listed-is = l; low = omega arith; to-do = refl }
+pub aging-start : {rows before : ℕ} {table lent : List ℕ} {listed : ℕ} {writes : Bool} (n : ℕ) → GoodRows table rows → writes ≡ mayWrite (cacheIn table .mode) → Fits (cacheIn table) before lent
+    → listed ≡ length (cacheIn table .recency)
+    → Aging n writes (cacheIn table) rows before (restIn table) lent table lent listed 0 before (cacheIn table)
+aging-start n g m f l = record { orders = []; kept = kept-start g f; may = m; listed-is = l; low = omega arith; to-do = refl }
 
-module _ {n : ℕ} {c₀ : Cache} {rows before : ℕ} {rest lent table words : List ℕ} {listed pos given : ℕ} {c : Cache}
-    (k : Aging n c₀ rows before rest lent table words listed pos given c) where
+module _ {n : ℕ} {writes : Bool} {c₀ : Cache} {rows before : ℕ} {rest lent table words : List ℕ} {listed pos given : ℕ} {c : Cache}
+    (k : Aging n writes c₀ rows before rest lent table words listed pos given c) where
   pub within : pos < listed → pos < length (c .recency)
   within p = let e = k .listed-is in omega arith
 
+  -- an order given is one fewer to come
+  pub evicts-one : pos < listed → dirtyAt (c .rows) (getD (c .recency) pos 0) ≡ false → left (dropped (getD (c .recency) pos 0) c) + 1 ≡ left c
+  evicts-one p = left-evict c (k .kept .did .holds .steady .sound) pos (within p)
+
+  pub writes-one : pos < listed → dirtyAt (c .rows) (getD (c .recency) pos 0) ≡ true → left (amendAt (getD (c .recency) pos 0) cleaned c) + 1 ≡ left c
+  writes-one p = left-write c (k .kept .did .holds .steady .sound) pos (within p) (c .recency)
+
   -- past an entry that stays
   passes-by : pos < listed → evictAged n (drop pos (c .recency)) (work c (k .orders)) ≡ evictAged n (drop (suc pos) (c .recency)) (work c (k .orders))
-      → Aging n c₀ rows before rest lent table words listed (pos + 1) given c
+      → Aging n writes c₀ rows before rest lent table words listed (pos + 1) given c
   passes-by p e = record {
     orders = k .orders;
     kept = k .kept;
-    mode-is = k .mode-is;
+    may = k .may;
     listed-is = k .listed-is;
     low = omega arith;
     to-do = rw (add-one pos) (sym e ∙ k .to-do);
   }
 
-  pub aging-young : pos < listed → agedAt n c (getD (c .recency) pos 0) ≡ false → Aging n c₀ rows before rest lent table words listed (pos + 1) given c
+  pub aging-young : pos < listed → agedAt n c (getD (c .recency) pos 0) ≡ false → Aging n writes c₀ rows before rest lent table words listed (pos + 1) given c
   aging-young p h = passes-by p (looks n c (k .orders) pos (within p) false h)
 
-  pub aging-dirty : pos < listed → mayWrite (c₀ .mode) ≡ false → agedAt n c (getD (c .recency) pos 0) ≡ true → dirtyAt (c .rows) (getD (c .recency) pos 0) ≡ true
-      → Aging n c₀ rows before rest lent table words listed (pos + 1) given c
+  pub aging-dirty : pos < listed → writes ≡ false → agedAt n c (getD (c .recency) pos 0) ≡ true → dirtyAt (c .rows) (getD (c .recency) pos 0) ≡ true
+      → Aging n writes c₀ rows before rest lent table words listed (pos + 1) given c
   aging-dirty p m h d =
       passes-by p
-      (goes n c (k .orders) pos (within p) h (expel-dirty (c .mode) (getD (c .recency) pos 0) (work c (k .orders)) (ap mayWrite (k .mode-is) ∙ m) d))
+      (goes n c (k .orders) pos (within p) h (expel-dirty (c .mode) (getD (c .recency) pos 0) (work c (k .orders)) (sym (k .may) ∙ m) d))
 
   pub aging-evict : {table′ words′ : List ℕ} {answer : ℕ} → pos < listed → agedAt n c (getD (c .recency) pos 0) ≡ true → dirtyAt (c .rows) (getD (c .recency) pos 0) ≡ false
       → Gave Kind.Evict (getD (c .recency) pos 0) c (dropped (getD (c .recency) pos 0) c) (restIn table) table′ given words words′ answer
-      → Aging n c₀ rows before rest lent table′ words′ (listed - 1) pos (given + 1) (dropped (getD (c .recency) pos 0) c)
+      → Aging n writes c₀ rows before rest lent table′ words′ (listed - 1) pos (given + 1) (dropped (getD (c .recency) pos 0) c)
   aging-evict p h d g =
       let s = k .kept .did .holds .steady .sound in
       let q = within p in
       record {
         orders = give Kind.Evict (getD (c .recency) pos 0) (sizeAt (c .rows) (getD (c .recency) pos 0)) (k .orders);
-        kept = kept-gives (k .kept) (kept-told (k .kept) g) (length-remove (getD (c .recency) pos 0) (c .rows)) (left-evict c s pos q d);
-        mode-is = k .mode-is;
+        kept = kept-gives (k .kept) (kept-told (k .kept) g) (length-remove (getD (c .recency) pos 0) (c .rows)) (evicts-one p d);
+        may = k .may;
         listed-is = let e = k .listed-is in let z = listed-evict c s pos q in omega arith;
         low = omega arith;
         to-do = ap (λ (r : List ℕ). evictAged n r (evict (getD (c .recency) pos 0) (work c (k .orders)))) (ap (drop pos) (cut-strike pos (c .recency) (s .once) q) ∙ drop-cut pos (c .recency))
             ∙ sym (goes n c (k .orders) pos q h (expel-clean (c .mode) (getD (c .recency) pos 0) (work c (k .orders)) d)) ∙ k .to-do;
       }
 
-  -- alone, an aged dirty entry is written, and what is evicted next is what the rule evicts
-  pub aging-write : {table′ words′ : List ℕ} {answer : ℕ} → pos < listed → c₀ .mode ≡ Alone → agedAt n c (getD (c .recency) pos 0) ≡ true → dirtyAt (c .rows) (getD (c .recency) pos 0) ≡ true
+  -- an aged dirty entry is written, and what is evicted next is what the rule evicts
+  pub aging-write : {table′ words′ : List ℕ} {answer : ℕ} → pos < listed → writes ≡ true → agedAt n c (getD (c .recency) pos 0) ≡ true → dirtyAt (c .rows) (getD (c .recency) pos 0) ≡ true
       → Gave Kind.Write (getD (c .recency) pos 0) c (amendAt (getD (c .recency) pos 0) cleaned c) (restIn table) table′ given words words′ answer
-      → Aging n c₀ rows before rest lent table′ words′ listed pos (given + 1) (amendAt (getD (c .recency) pos 0) cleaned c)
+      → Aging n writes c₀ rows before rest lent table′ words′ listed pos (given + 1) (amendAt (getD (c .recency) pos 0) cleaned c)
   aging-write p m h d g =
-      let s = k .kept .did .holds .steady .sound in
       let q = within p in
       let a = getD (c .recency) pos 0 in
       let after = give Kind.Write a (sizeAt (c .rows) a) (k .orders) in
       record {
         orders = after;
-        kept = kept-gives (k .kept) (kept-told (k .kept) g) (length-amend a cleaned (c .rows)) (left-write c s pos q (c .recency) d);
-        mode-is = k .mode-is;
+        kept = kept-gives (k .kept) (kept-told (k .kept) g) (length-amend a cleaned (c .rows)) (writes-one p d);
+        may = k .may;
         listed-is = k .listed-is;
         low = k .low;
         to-do =
             goes n (amendAt a cleaned c) after pos q (written-aged a (c .rows) n ∙ h) (expel-clean (c .mode) a (work (amendAt a cleaned c) after) (written-clean a (c .rows)))
-            ∙ sym (goes n c (k .orders) pos q h (expel-alone (c .mode) a (work c (k .orders)) (k .mode-is ∙ m) d)) ∙ k .to-do;
+            ∙ sym (goes n c (k .orders) pos q h (expel-written (c .mode) a (work c (k .orders)) (sym (k .may) ∙ m) d)) ∙ k .to-do;
       }
 
   pub aging-end : listed ≤ pos → Did (evictAged n (c₀ .recency) (start c₀)) rest table before lent words given
@@ -181,7 +191,7 @@ module _ {n : ℕ} {c₀ : Cache} {rows before : ℕ} {rest lent table words : L
       (k .kept .did)
 
 -- a cache that a table holds is the one in it
-pub aging-in : {n : ℕ} {c₀ : Cache} {rows before : ℕ} {rest lent table words : List ℕ} {listed pos given : ℕ} {c : Cache}
-    → Aging n c₀ rows before rest lent table words listed pos given c → Aging n c₀ rows before rest lent table words listed pos given (cacheIn table)
-aging-in {n} {c₀} {rows} {before} {rest} {lent} {table} {words} {listed} {pos} {given} {c} k =
-    subst (λ (d : Cache). Aging n c₀ rows before rest lent table words listed pos given d) (sym (holds-cache (k .kept .did .holds))) k
+pub aging-in : {n : ℕ} {writes : Bool} {c₀ : Cache} {rows before : ℕ} {rest lent table words : List ℕ} {listed pos given : ℕ} {c : Cache}
+    → Aging n writes c₀ rows before rest lent table words listed pos given c → Aging n writes c₀ rows before rest lent table words listed pos given (cacheIn table)
+aging-in {n} {writes} {c₀} {rows} {before} {rest} {lent} {table} {words} {listed} {pos} {given} {c} k =
+    subst (λ (d : Cache). Aging n writes c₀ rows before rest lent table words listed pos given d) (sym (holds-cache (k .kept .did .holds))) k

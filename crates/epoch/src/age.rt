@@ -1,9 +1,7 @@
 // Age-out's walk over the recency list.
 ghost use mathlib.Core.Path.{_≡_};
-ghost use mathlib.Core.Bool.{false};
 ghost use Prim.Native.Nat.{_<_};
 ghost use lib.ListN.{length};
-ghost use Rattle.rules.specs.declared.request.Mode.the-variants.{Alone};
 ghost use Rattle.rules.proofs.Moves.{mayWrite};
 ghost use Rattle.rules.specs.Cache.{start};
 ghost use Rattle.rules.specs.Resizing.{agedAt, evictAged};
@@ -29,15 +27,16 @@ fn aged_at(table: &[u64], rows: usize, pos: usize, epochs: u64) -> bool
     epochs <= e.idle
 }
 
-// Alone, from tail to head: entries that aged out are evicted, dirty ones written first.
-fn expel_alone(
+// From tail to head, clean entries that aged out are evicted; dirty ones are written first, or kept.
+fn expel(
     table: &mut [u64],
     orders: &mut [u64],
     rows: usize,
+    writes: bool,
     epochs: u64,
     before: usize,
 ) -> usize
-    requires { ⌜ GoodRows (now table) rows × (cacheIn (now table) .mode ≡ Alone) × Fits (cacheIn (now table)) before (now orders) ⌝ }
+    requires { ⌜ GoodRows (now table) rows × (writes ≡ mayWrite (cacheIn (now table) .mode)) × Fits (cacheIn (now table)) before (now orders) ⌝ }
     ensures { λ r. ⌜ Did (evictAged epochs (cacheIn (now (table .entry)) .recency) (start (cacheIn (now (table .entry))))) (restIn (now (table .entry))) (now (table .exit)) before (now (orders .entry)) (now (orders .exit)) r ⌝ }
 {
     let mut listed = listed_len(table, rows);
@@ -46,41 +45,15 @@ fn expel_alone(
     while pos < listed {
         if !aged_at(table, rows, pos, epochs) {
             pos += 1;
-        } else if dirty_at(table, rows, pos) {
+        } else if !dirty_at(table, rows, pos) {
+            evict_at(table, orders, rows, pos, given);
+            given += 1;
+            listed -= 1;
+        } else if writes {
             write_at(table, orders, rows, pos, given);
             given += 1;
         } else {
-            evict_at(table, orders, rows, pos, given);
-            given += 1;
-            listed -= 1;
-        }
-    }
-    given
-}
-
-// Lead and standby, from tail to head: clean entries that aged out are evicted, dirty ones kept.
-fn expel_clean(
-    table: &mut [u64],
-    orders: &mut [u64],
-    rows: usize,
-    epochs: u64,
-    before: usize,
-) -> usize
-    requires { ⌜ GoodRows (now table) rows × (mayWrite (cacheIn (now table) .mode) ≡ false) × Fits (cacheIn (now table)) before (now orders) ⌝ }
-    ensures { λ r. ⌜ Did (evictAged epochs (cacheIn (now (table .entry)) .recency) (start (cacheIn (now (table .entry))))) (restIn (now (table .entry))) (now (table .exit)) before (now (orders .entry)) (now (orders .exit)) r ⌝ }
-{
-    let mut listed = listed_len(table, rows);
-    let mut pos: usize = 0;
-    let mut given = before;
-    while pos < listed {
-        if !aged_at(table, rows, pos, epochs) {
             pos += 1;
-        } else if dirty_at(table, rows, pos) {
-            pos += 1;
-        } else {
-            evict_at(table, orders, rows, pos, given);
-            given += 1;
-            listed -= 1;
         }
     }
     given
@@ -99,8 +72,8 @@ pub fn evict_aged(
     ensures { λ r. ⌜ Did (evictAged epochs (cacheIn (now (table .entry)) .recency) (start (cacheIn (now (table .entry))))) (restIn (now (table .entry))) (now (table .exit)) before (now (orders .entry)) (now (orders .exit)) r ⌝ }
 {
     match mode {
-        Mode::Alone => expel_alone(table, orders, rows, epochs, before),
-        Mode::Lead => expel_clean(table, orders, rows, epochs, before),
-        Mode::Standby => expel_clean(table, orders, rows, epochs, before),
+        Mode::Alone => expel(table, orders, rows, true, epochs, before),
+        Mode::Lead => expel(table, orders, rows, false, epochs, before),
+        Mode::Standby => expel(table, orders, rows, false, epochs, before),
     }
 }

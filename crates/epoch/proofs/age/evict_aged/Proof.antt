@@ -1,4 +1,4 @@
--- Each mode has its pass.
+-- Each mode writes, or does not, as the rule has it.
 use mathlib.Core.Path.{sym, ap, _∙_}
 use Rattle.rules.proofs.Moves.{mayWrite}
 use borrow.Author.Needs.{needs}
@@ -8,20 +8,20 @@ use Rattle.epoch.proofs.age.evict_aged.Tie as tie
 enum-told : tie.Need-enum-told
 enum-told c = search needs
 
-expel-alone-requires : tie.Need-expel-alone-requires
-expel-alone-requires c κs = (c .before .before .before .before .before .before .pre .0, sym (c .before .before .before .before .before .before .pre .1) ∙ c .before .before .enum-told .given .1, c .before .before .before .before .before .before .pre .2)
+expel-requires : tie.Need-expel-requires
+expel-requires c κs = (c .before .before .before .before .before .before .pre .0, ap mayWrite (sym (c .before .before .enum-told .given .1) ∙ c .before .before .before .before .before .before .pre .1), c .before .before .before .before .before .before .pre .2)
 
 enum-told-2 : tie.Need-enum-told-2
 enum-told-2 c = search needs
 
-expel-clean-requires : tie.Need-expel-clean-requires
-expel-clean-requires c κs = (c .before .before .before .before .before .before .pre .0, ap mayWrite (sym (c .before .before .before .before .before .before .pre .1) ∙ c .before .before .enum-told2 .given .1), c .before .before .before .before .before .before .pre .2)
+expel-requires-2 : tie.Need-expel-requires-2
+expel-requires-2 c κs = (c .before .before .before .before .before .before .pre .0, ap mayWrite (sym (c .before .before .enum-told2 .given .1) ∙ c .before .before .before .before .before .before .pre .1), c .before .before .before .before .before .before .pre .2)
 
 enum-told-3 : tie.Need-enum-told-3
 enum-told-3 c = search needs
 
-expel-clean-requires-2 : tie.Need-expel-clean-requires-2
-expel-clean-requires-2 c κs = (c .before .before .before .before .before .before .pre .0, ap mayWrite (sym (c .before .before .before .before .before .before .pre .1) ∙ c .before .before .enum-told3 .given .1), c .before .before .before .before .before .before .pre .2)
+expel-requires-3 : tie.Need-expel-requires-3
+expel-requires-3 c κs = (c .before .before .before .before .before .before .pre .0, ap mayWrite (sym (c .before .before .enum-told3 .given .1) ∙ c .before .before .before .before .before .before .pre .1), c .before .before .before .before .before .before .pre .2)
 
 same-length : tie.Need-same-length
 same-length c = search needs
@@ -55,11 +55,11 @@ evict-aged-spec =
     tie.close
     (tie.spec
     enum-told
-    expel-alone-requires
+    expel-requires
     enum-told-2
-    expel-clean-requires
+    expel-requires-2
     enum-told-3
-    expel-clean-requires-2
+    expel-requires-3
     same-length
     same-length-2
     returns
