@@ -21,8 +21,8 @@ use Rattle.layout.proofs.Ordered.{written-none, written-next}
 use Rattle.layout.specs.Picture.{cacheIn, restIn, written}
 use Rattle.judge.proofs.Verdicts.{sound}
 use Rattle.judge.specs.Verdict.{judgeWords}
+use Rattle.room.specs.Answered.{Changed, Answered}
 use Rattle.room.specs.Did.{putOrders}
-use Rattle.edits.specs.Answered.{Changed, Answered}
 use Rattle.cache.proofs.Lent.{readsList, givesOrders}
 use Rattle.cache.specs.Tables.{left, carriedOut, stepWords}
 

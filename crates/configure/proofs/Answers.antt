@@ -20,9 +20,9 @@ use Rattle.rules.specs.declared.request.Request.the-variants.{Configure}
 use Rattle.layout.proofs.Held.{holds-cache, holds-rest}
 use Rattle.layout.specs.Holds.{Holds}
 use Rattle.layout.specs.Picture.{cacheIn, restIn}
+use Rattle.room.proofs.Outcomes.{first, next, last, answered-not, answered-done, words-fit}
+use Rattle.room.specs.Answered.{Answered}
 use Rattle.room.specs.Did.{Did, Fits}
-use Rattle.edits.proofs.Outcomes.{first, next, last, answered-not, answered-done, words-fit}
-use Rattle.edits.specs.Answered.{Answered}
 
 module _ {ws : List ℕ} {c : Cache} {rest : List ℕ} (s : Settings) (lent : List ℕ) (h : Holds ws c rest) where
   pub configure-words : ltb (length lent) (3 * (2 * length (c .rows) + 1)) ≡ true → Answered (step c (asking (Configure s) [] (length lent))) rest ws lent lent (Refused refusal.OrderWords)

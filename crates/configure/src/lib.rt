@@ -10,7 +10,7 @@ ghost use Rattle.rules.specs.Hosts.{asking};
 ghost use Rattle.rules.specs.Requests.{brought, configured, step};
 ghost use Rattle.layout.specs.Holds.{Holds, Good};
 ghost use Rattle.layout.specs.Picture.{cacheIn, restIn};
-ghost use Rattle.edits.specs.Answered.{Answered};
+ghost use Rattle.room.specs.Answered.{Answered};
 use entries::too_few_words;
 use room::make_room;
 use rules::answer::Answer;

@@ -22,11 +22,11 @@ use Rattle.layout.proofs.Held.{onward}
 use Rattle.layout.specs.Holds.{Holds}
 use Rattle.layout.specs.Picture.{cacheIn, restIn}
 use Rattle.room.proofs.Orders.{did-onward}
+use Rattle.room.proofs.Outcomes.{first, next, last, step-by, changed-not, answered-not, answered-done}
+use Rattle.room.specs.Answered.{Changed, Answered}
 use Rattle.room.specs.Did.{Did}
-use Rattle.edits.specs.Answered.{Changed, Answered}
 use Rattle.edits.specs.Flushed.{allWritten}
 use Rattle.edits.specs.Listed.{badList, taken}
-use Rattle.edits.proofs.Outcomes.{first, next, last, step-by, changed-not, answered-not, answered-done}
 
 -- ---- take
 

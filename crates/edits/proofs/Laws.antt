@@ -24,7 +24,7 @@ use Rattle.table.proofs.Turned.{become-as}
 use Rattle.table.specs.Asked.{GoodRows, RowOf}
 use Rattle.table.specs.Told.{foundIn, become}
 use Rattle.table.specs.declared.lookup.Found.the-variants.{At, Nothing}
-use Rattle.edits.specs.Answered.{Changed}
+use Rattle.room.specs.Answered.{Changed}
 
 -- ---- the outcomes
 

@@ -1,5 +1,4 @@
 pub mod Laws
-pub mod Outcomes
 pub mod Pinned
 pub mod Discarded
 pub mod Marked

@@ -10,7 +10,7 @@ ghost use Rattle.layout.specs.Picture.{addresses, cacheIn, restIn};
 ghost use Rattle.layout.specs.Places.{placeOf};
 ghost use Rattle.layout.specs.Holds.{Good};
 ghost use Rattle.table.specs.Asked.{GoodRows, RowOf};
-ghost use Rattle.edits.specs.Answered.{Changed};
+ghost use Rattle.room.specs.Answered.{Changed};
 use entries::bad_address;
 use entries::is_held;
 use rules::answer::Answer;

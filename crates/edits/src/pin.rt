@@ -9,7 +9,7 @@ ghost use Rattle.rules.specs.Requests.{step};
 ghost use Rattle.layout.specs.Picture.{cacheIn, restIn};
 ghost use Rattle.layout.specs.Holds.{Good};
 ghost use Rattle.table.specs.Asked.{GoodRows, RowOf};
-ghost use Rattle.edits.specs.Answered.{Changed};
+ghost use Rattle.room.specs.Answered.{Changed};
 use entries::bad_address;
 use entries::is_held;
 use entries::with_pin;

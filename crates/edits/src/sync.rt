@@ -6,7 +6,7 @@ ghost use Rattle.rules.specs.Hosts.{asking};
 ghost use Rattle.rules.specs.Requests.{step};
 ghost use Rattle.layout.specs.Picture.{cacheIn, restIn};
 ghost use Rattle.layout.specs.Holds.{Good};
-ghost use Rattle.edits.specs.Answered.{Answered};
+ghost use Rattle.room.specs.Answered.{Answered};
 use entries::is_lead;
 use entries::too_few_words;
 use room::write_dirty;

@@ -10,7 +10,7 @@ ghost use Rattle.rules.specs.Requests.{step};
 ghost use Rattle.layout.specs.Picture.{cacheIn, restIn};
 ghost use Rattle.layout.specs.Holds.{Holds, Good};
 ghost use Rattle.table.specs.Asked.{GoodRows};
-ghost use Rattle.edits.specs.Answered.{Changed};
+ghost use Rattle.room.specs.Answered.{Changed};
 ghost use Rattle.edits.specs.Listed.{badList, dirtyRow, taken};
 use entries::bad_address;
 use entries::cleaned;

@@ -1,6 +1,6 @@
 -- The loop of age-out: what the rule does from a place on is what it does from the start.
 use Prim.Native.Nat.{ℕ, suc, _+_, _-_, _<_, _≤_}
-use mathlib.Core.Bool.{Bool, true, false, not, true≢false}
+use mathlib.Core.Bool.{Bool, true, false, true≢false}
 use mathlib.Core.List.{List, []}
 use mathlib.Core.Option.{Option, none, some, Option·map}
 use mathlib.Core.Path.{_≡_, refl, sym, ap, subst, _∙_}
@@ -9,7 +9,7 @@ use native.Mathlib.Omega.{arith}
 use lib.Dec.{leb}
 use lib.ListN.{length, getD, drop, drop-of-length-le}
 use lib.Seq.{drop-cons}
-use borrow.Author.Tests.{eq-eqb, not-true, not-false}
+use borrow.Author.Tests.{eq-eqb}
 use Rattle.rules.proofs.Found.{get-amend, length-remove, length-amend}
 use Rattle.rules.proofs.Moved.{left}
 use Rattle.rules.proofs.Moves.{mayWrite}
@@ -37,14 +37,6 @@ use Rattle.room.specs.Did.{Did, Fits}
 -- the test of an entry's age, once the entry is read
 pub told-aged : (o : Option Entry) (e : Entry) (n : ℕ) → o ≡ some e → leb n (e .idle) ≡ passes (λ x. leb n (x .idle)) o
 told-aged o e n p = rw p
-
--- a test that the code negates, as it came out
-module _ {r t : Bool} (e : r ≡ t) where
-  pub is-so : not r ≡ false → t ≡ true
-  is-so h = sym e ∙ not-false r h
-
-  pub is-not : not r ≡ true → t ≡ false
-  is-not h = sym e ∙ not-true r h
 
 -- a clean entry is evicted in every mode
 expel-clean : (m : Mode) (a : ℕ) (w : Work) → dirtyAt (w .cache .rows) a ≡ false → expel m a w ≡ evict a w

@@ -18,9 +18,9 @@ use Rattle.rules.specs.declared.request.Request.the-variants.{Insert}
 use Rattle.layout.specs.Holds.{Holds}
 use Rattle.layout.specs.Picture.{cacheIn, restIn}
 use Rattle.room.proofs.Orders.{did-onward}
+use Rattle.room.proofs.Outcomes.{first, next, last, answered-not, answered-done}
+use Rattle.room.specs.Answered.{Answered}
 use Rattle.room.specs.Did.{Did}
-use Rattle.edits.proofs.Outcomes.{first, next, last, answered-not, answered-done}
-use Rattle.edits.specs.Answered.{Answered}
 use Rattle.insert.specs.Inserted.{insertedIn}
 
 -- ---- the tests in turn

@@ -12,7 +12,7 @@ ghost use Rattle.rules.specs.Rows.{get, hasFree};
 ghost use Rattle.layout.specs.Holds.{Holds, Good};
 ghost use Rattle.layout.specs.Picture.{cacheIn, restIn};
 ghost use Rattle.table.specs.Asked.{GoodRows};
-ghost use Rattle.edits.specs.Answered.{Answered};
+ghost use Rattle.room.specs.Answered.{Answered};
 ghost use Rattle.insert.specs.Inserted.{insertedIn};
 use admission::admit;
 use admission::no_row;

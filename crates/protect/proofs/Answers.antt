@@ -17,9 +17,9 @@ use Rattle.rules.specs.declared.entry.Entry.{Entry}
 use Rattle.rules.specs.declared.request.Access.{Access}
 use Rattle.rules.specs.declared.request.Request.the-variants.{Protect}
 use Rattle.layout.specs.Holds.{Holds}
+use Rattle.room.proofs.Outcomes.{first, next, last, answered-not, answered-done}
+use Rattle.room.specs.Answered.{Answered}
 use Rattle.room.specs.Did.{Did}
-use Rattle.edits.proofs.Outcomes.{first, next, last, answered-not, answered-done}
-use Rattle.edits.specs.Answered.{Answered}
 
 abbrev protecting : Access → ℕ → ℕ → List ℕ → Call
 protecting x a s lent = asking (Protect x a s) [] (length lent)

@@ -16,9 +16,9 @@ use Rattle.rules.specs.declared.answer.Refusal.the-variants as refusal
 use Rattle.rules.specs.declared.entry.Entry.{Entry}
 use Rattle.rules.specs.declared.request.Request.the-variants.{Release, ReleaseChanged}
 use Rattle.layout.specs.Holds.{Holds}
+use Rattle.room.proofs.Outcomes.{first, next, last, answered-not, answered-done}
+use Rattle.room.specs.Answered.{Answered}
 use Rattle.room.specs.Did.{Did}
-use Rattle.edits.proofs.Outcomes.{first, next, last, answered-not, answered-done}
-use Rattle.edits.specs.Answered.{Answered}
 use Rattle.release.proofs.Released.{changedReleased}
 
 -- a test of the entry that was found

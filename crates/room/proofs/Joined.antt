@@ -1,15 +1,16 @@
--- The two steps alone: what the first leaves lets the second begin, and both together are the rule.
+-- The two steps: what the first leaves lets the second begin, and both together are the rule.
 use Prim.Native.Nat.{ℕ, _+_}
-use mathlib.Core.Bool.{Bool, true, false}
+use mathlib.Core.Bool.{Bool, true, false, true≢false}
 use mathlib.Core.List.{List, append-nil}
 use mathlib.Core.Path.{_≡_, refl, sym, ap, subst, _∙_}
 use native.Mathlib.Omega.{arith}
 use lib.ListN.{length}
-use Rattle.rules.proofs.Moved.{moved}
-use Rattle.rules.proofs.Moves.{tail-moves}
+use Rattle.rules.proofs.Moved.{Moved, moved}
+use Rattle.rules.proofs.Moves.{tail-moves, mayWrite}
 use Rattle.rules.proofs.Tests.{choose, either}
 use Rattle.rules.specs.Cache.{Cache, Work, start}
-use Rattle.rules.specs.Room.{evictTail, evictClean, writeDirty, roomIn, makeRoom}
+use Rattle.rules.specs.Room.{evictClean, writeDirty, roomIn, makeRoom}
+use Rattle.rules.specs.declared.request.Mode.{Mode}
 use Rattle.rules.specs.declared.request.Mode.the-variants.{Alone, Lead, Standby}
 use Rattle.layout.proofs.Held.{holds-cache, holds-rest}
 use Rattle.layout.specs.Holds.{Good}
@@ -20,51 +21,61 @@ use Rattle.room.proofs.After.{same-work, dirty-carries}
 use Rattle.room.proofs.Kept.{did-start}
 use Rattle.room.proofs.Orders.{did-then}
 use Rattle.room.specs.After.{after}
-use Rattle.room.specs.Did.{Did, Fits, Stopped}
-use Rattle.room.specs.declared.pass.Made.{Made}
+use Rattle.room.specs.Did.{Did, Fits}
+use Rattle.room.specs.First.{evictIn}
 
--- the first step
-abbrev tailOf : ℕ → Bool → Cache → Work
-tailOf x row c = evictTail (length (c .recency) + length (c .recency)) x row (start c)
+-- the mode's rule, by whether the mode may write
+module _ (x : ℕ) (row : Bool) (w : Work) where
+  room-alone : (m : Mode) → mayWrite m ≡ true → roomIn m x row w ≡ roomIn Alone x row w
+  room-alone Alone h = refl
+  room-alone Lead h = absurd (true≢false (sym h))
+  room-alone Standby h = absurd (true≢false (sym h))
 
-module _ {table lent table₁ words₁ : List ℕ} {rows before given : ℕ} (x : ℕ) (row : Bool) (g : GoodRows table rows)
-    (d : Did (tailOf x row (cacheIn table)) (restIn table) table₁ before lent words₁ given) where
-  pub tail-good : GoodRows table₁ rows
-  tail-good =
-      let s = g .good .steady .sound in
-      let n = length (cacheIn table .recency) + length (cacheIn table .recency) in
-      good-rows (d .holds) (g .size ∙ sym (moved (tail-moves {sets = false} n x row (start (cacheIn table)) s) s .kept .rows))
-
-  -- each order given is one that can't come any more
-  pub tail-fits : Fits (cacheIn table) before lent → length words₁ ≡ length lent → Fits (cacheIn table₁) given words₁
-  tail-fits f l =
-      let s = g .good .steady .sound in
-      let n = length (cacheIn table .recency) + length (cacheIn table .recency) in
-      let m = moved (tail-moves {sets = false} n x row (start (cacheIn table)) s) s .orders in
-      let e = d .number in
-      rw (holds-cache (d .holds)) (omega arith)
-
-  pub alone-joins : {table₂ words₂ : List ℕ} {r : ℕ}
-      → Did (writeDirty x (cacheIn table₁ .recency) (start (cacheIn table₁))) (restIn table₁) table₂ given words₁ words₂ r
-      → Did (roomIn Alone x row (start (cacheIn table))) (restIn table) table₂ before lent words₂ r
+  room-other : (m : Mode) → mayWrite m ≡ false → roomIn m x row w ≡ evictClean x row (w .cache .recency) w
   unfolding roomIn
-  alone-joins {table₂} {words₂} {r} e =
-      let v = tailOf x row (cacheIn table) in
-      let q : Did (writeDirty x (v .cache .recency) (start (v .cache))) (restIn table) table₂ given words₁ words₂ r = rw (holds-cache (d .holds), holds-rest (d .holds)) at e in
-      let same : after (v .orders) (start (v .cache)) ≡ v = same-work (v .orders) refl (append-nil (v .orders)) in
-      subst (λ (w : Work). Did w (restIn table) table₂ before lent words₂ r)
-      (sym (dirty-carries (v .orders) x (v .cache .recency) (start (v .cache))) ∙ ap (writeDirty x (v .cache .recency)) same)
-      (did-then d q)
+  room-other Alone h = absurd (true≢false h)
+  room-other Lead h = refl
+  room-other Standby h = refl
 
-module _ (x : ℕ) (row : Bool) (c : Cache) {rest table lent words : List ℕ} {before : ℕ} {made : Made}
-    (s : Stopped x row (evictClean x row (c .recency) (start c)) rest table before lent words made) where
-  pub lead-is : Did (roomIn Lead x row (start c)) rest table before lent words (made .given)
-  unfolding roomIn
-  lead-is = s .did
+module _ {table lent table₁ words₁ : List ℕ} {rows before given : ℕ} {alone : Bool} (x : ℕ) (row : Bool) (g : GoodRows table rows)
+    (d : Did (evictIn alone x row (cacheIn table)) (restIn table) table₁ before lent words₁ given) where
+  -- in the other modes the first step is all
+  pub other-joins : alone ≡ mayWrite (cacheIn table .mode) → alone ≡ false
+      → Did (roomIn (cacheIn table .mode) x row (start (cacheIn table))) (restIn table) table₁ before lent words₁ given
+  other-joins m a = rw (room-other x row (start (cacheIn table)) (cacheIn table .mode) (sym m ∙ a)) (rw a at d)
 
-  pub standby-is : Did (roomIn Standby x row (start c)) rest table before lent words (made .given)
-  unfolding roomIn
-  standby-is = s .did
+  module _ (a : alone ≡ true) where
+    first : Did (evictIn true x row (cacheIn table)) (restIn table) table₁ before lent words₁ given
+    first = rw a at d
+
+    first-moved : Moved (start (cacheIn table)) (evictIn true x row (cacheIn table))
+    first-moved =
+        let s = g .good .steady .sound in
+        let n = length (cacheIn table .recency) + length (cacheIn table .recency) in
+        moved (tail-moves {sets = false} n x row (start (cacheIn table)) s) s
+
+    pub first-good : GoodRows table₁ rows
+    first-good = good-rows (first .holds) (g .size ∙ sym (first-moved .kept .rows))
+
+    -- each order given is one that can't come any more
+    pub first-fits : Fits (cacheIn table) before lent → length words₁ ≡ length lent → Fits (cacheIn table₁) given words₁
+    first-fits f l =
+        let o = first-moved .orders in
+        let e = first .number in
+        rw (holds-cache (first .holds)) (omega arith)
+
+    pub alone-joins : {table₂ words₂ : List ℕ} {r : ℕ} → alone ≡ mayWrite (cacheIn table .mode)
+        → Did (writeDirty x (cacheIn table₁ .recency) (start (cacheIn table₁))) (restIn table₁) table₂ given words₁ words₂ r
+        → Did (roomIn (cacheIn table .mode) x row (start (cacheIn table))) (restIn table) table₂ before lent words₂ r
+    unfolding roomIn
+    alone-joins {table₂} {words₂} {r} m e =
+        let v = evictIn true x row (cacheIn table) in
+        let q : Did (writeDirty x (v .cache .recency) (start (v .cache))) (restIn table) table₂ given words₁ words₂ r = rw (holds-cache (first .holds), holds-rest (first .holds)) at e in
+        let same : after (v .orders) (start (v .cache)) ≡ v = same-work (v .orders) refl (append-nil (v .orders)) in
+        subst (λ (w : Work). Did w (restIn table) table₂ before lent words₂ r)
+        (sym (dirty-carries (v .orders) x (v .cache .recency) (start (v .cache))) ∙ ap (writeDirty x (v .cache .recency)) same
+        ∙ sym (room-alone x row (start (cacheIn table)) (cacheIn table .mode) (sym m ∙ a)))
+        (did-then first q)
 
 -- ---- evictions on or off
 

@@ -35,6 +35,14 @@ use Rattle.table.specs.Told.{dropped, Gives}
 use Rattle.room.proofs.Orders.{put-none, put-next}
 use Rattle.room.specs.Did.{Did, Fits}
 
+-- a test that the code negates, as it came out
+module _ {r t : Bool} (e : r ≡ t) where
+  pub is-so : not r ≡ false → t ≡ true
+  is-so h = sym e ∙ not-false r h
+
+  pub is-not : not r ≡ true → t ≡ false
+  is-not h = sym e ∙ not-true r h
+
 abbrev pub work : Cache → List Order → Work
 work c orders = record { cache = c; orders = orders }
 
@@ -139,10 +147,10 @@ module _ {maximum held : ℕ} {free : Bool} {listed : ℕ} {c : Cache} (f : Figu
   -- the loop's test, as it came out
   module _ (x : ℕ) (row : Bool) {r : Bool} (e : r ≡ (ltb maximum (held + x) || row && not free)) where
     pub still-lacking : not r ≡ false → lacking x row c ≡ true
-    still-lacking h = sym (lacking-is x row) ∙ sym e ∙ not-false r h
+    still-lacking = is-so (e ∙ lacking-is x row)
 
     pub no-longer-lacking : not r ≡ true → lacking x row c ≡ false
-    no-longer-lacking h = sym (lacking-is x row) ∙ sym e ∙ not-true r h
+    no-longer-lacking = is-not (e ∙ lacking-is x row)
 
   pub figures-evict : (s : Sound c) (pos : ℕ) → pos < length (c .recency)
       → Figures maximum (held - sizeAt (c .rows) (getD (c .recency) pos 0)) true (listed - 1) (dropped (getD (c .recency) pos 0) c)

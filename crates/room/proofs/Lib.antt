@@ -1,7 +1,10 @@
 pub mod After
-pub mod Cleaning
+pub mod Clean
 pub mod Joined
 pub mod Kept
+pub mod Making
 pub mod Orders
-pub mod Turning
+pub mod Outcomes
+pub mod Tail
+pub mod ToDo
 pub mod Writing

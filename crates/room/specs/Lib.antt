@@ -1,2 +1,4 @@
 pub mod After
+pub mod Answered
 pub mod Did
+pub mod First

@@ -1,15 +1,13 @@
 // The first step of making room: entries leave until room suffices or the list has nothing to give.
 ghost use mathlib.Core.Path.{_≡_};
 ghost use mathlib.Core.Bool.{not, _&&_, _||_};
-ghost use Prim.Native.Nat.{_+_, _≤_};
+ghost use Prim.Native.Nat.{_≤_};
 ghost use lib.Dec.{ltb};
-ghost use lib.ListN.{length};
-ghost use Rattle.rules.specs.Cache.{start};
 ghost use Rattle.rules.specs.Limits.{mostSize};
-ghost use Rattle.rules.specs.Room.{evictClean, evictTail};
 ghost use Rattle.layout.specs.Picture.{cacheIn, restIn};
 ghost use Rattle.table.specs.Asked.{GoodRows};
 ghost use Rattle.room.specs.Did.{Fits, Stopped};
+ghost use Rattle.room.specs.First.{evictIn};
 use table::header::maximum;
 use table::lookup::dirty_at;
 use table::orders::evict_at;
@@ -37,17 +35,19 @@ fn lacks(maximum: u64, need: u64, row: bool, free: bool) -> bool
     (maximum < need) | (row & !free)
 }
 
-// Lead and standby: while room is lacking, the clean entry nearest the tail is evicted.
-pub fn evict_clean(
+// While room is lacking, the clean entry nearest the tail is evicted. Alone only the tail is looked at:
+// a dirty one is written and moved to the head.
+pub fn evict_until(
     table: &mut [u64],
     orders: &mut [u64],
     rows: usize,
+    alone: bool,
     size: u64,
     row: bool,
     before: usize,
 ) -> Made
     requires { ⌜ GoodRows (now table) rows × (size ≤ mostSize) × Fits (cacheIn (now table)) before (now orders) ⌝ }
-    ensures { λ r. ⌜ Stopped size row (evictClean size row (cacheIn (now (table .entry)) .recency) (start (cacheIn (now (table .entry))))) (restIn (now (table .entry))) (now (table .exit)) before (now (orders .entry)) (now (orders .exit)) r ⌝ }
+    ensures { λ r. ⌜ Stopped size row (evictIn alone size row (cacheIn (now (table .entry)))) (restIn (now (table .entry))) (now (table .exit)) before (now (orders .entry)) (now (orders .exit)) r ⌝ }
 {
     let maximum = maximum(table);
     let mut held = held_bytes(table, rows);
@@ -62,51 +62,16 @@ pub fn evict_clean(
         if listed <= pos {
             break Stop::NothingLeft;
         }
-        if dirty_at(table, rows, pos) {
-            pos += 1;
-        } else {
+        if !dirty_at(table, rows, pos) {
             held -= evict_at(table, orders, rows, pos, given);
             free = true;
             listed -= 1;
             given += 1;
-        }
-    };
-    Made { stop, given }
-}
-
-// Alone: while room is lacking, a dirty tail is written and moved to the head, and a clean tail is
-// evicted.
-pub fn evict_tail(
-    table: &mut [u64],
-    orders: &mut [u64],
-    rows: usize,
-    size: u64,
-    row: bool,
-    before: usize,
-) -> Made
-    requires { ⌜ GoodRows (now table) rows × (size ≤ mostSize) × Fits (cacheIn (now table)) before (now orders) ⌝ }
-    ensures { λ r. ⌜ Stopped size row (evictTail (length (cacheIn (now (table .entry)) .recency) + length (cacheIn (now (table .entry)) .recency)) size row (start (cacheIn (now (table .entry))))) (restIn (now (table .entry))) (now (table .exit)) before (now (orders .entry)) (now (orders .exit)) r ⌝ }
-{
-    let maximum = maximum(table);
-    let mut held = held_bytes(table, rows);
-    let mut free = has_free(table, rows);
-    let mut listed = listed_len(table, rows);
-    let mut given = before;
-    let stop = loop {
-        if !lacks(maximum, held + size, row, free) {
-            break Stop::Enough;
-        }
-        if listed == 0 {
-            break Stop::NothingLeft;
-        }
-        if dirty_at(table, rows, 0) {
+        } else if alone {
             turn_tail(table, orders, rows, given);
             given += 1;
         } else {
-            held -= evict_at(table, orders, rows, 0, given);
-            free = true;
-            listed -= 1;
-            given += 1;
+            pos += 1;
         }
     };
     Made { stop, given }

@@ -11,7 +11,7 @@ ghost use Rattle.rules.specs.Rows.{get};
 ghost use Rattle.layout.specs.Picture.{cacheIn, restIn};
 ghost use Rattle.layout.specs.Holds.{Holds, Good};
 ghost use Rattle.table.specs.Asked.{GoodRows, RowOf};
-ghost use Rattle.edits.specs.Answered.{Changed};
+ghost use Rattle.room.specs.Answered.{Changed};
 use entries::bad_address;
 use entries::bad_size;
 use entries::changed_to;

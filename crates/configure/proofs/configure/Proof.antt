@@ -3,7 +3,7 @@ use mathlib.Core.Path.{sym, _∙_}
 use native.Mathlib.Omega.{arith}
 use borrow.Author.Needs.{needs}
 use Rattle.table.proofs.Told.{good-rows}
-use Rattle.edits.proofs.Outcomes.{words-told}
+use Rattle.room.proofs.Outcomes.{words-told}
 use Rattle.configure.proofs.Answers.{configure-words, configure-setting, configured-fits, configure-done}
 use Rattle.configure.proofs.configure.Statement.{statement}
 use Rattle.configure.proofs.configure.Tie as tie

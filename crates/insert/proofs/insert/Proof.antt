@@ -3,8 +3,8 @@ use mathlib.Core.Path.{sym, _∙_}
 use borrow.Author.Needs.{needs}
 use Rattle.layout.specs.Picture.{cacheIn}
 use Rattle.table.proofs.Told.{found-no}
+use Rattle.room.proofs.Outcomes.{words-told}
 use Rattle.edits.proofs.Laws.{found-row}
-use Rattle.edits.proofs.Outcomes.{words-told}
 use Rattle.insert.proofs.Answers.{insert-words, insert-address, insert-size, insert-present}
 use Rattle.insert.proofs.insert.Statement.{statement}
 use Rattle.insert.proofs.insert.Tie as tie

@@ -4,8 +4,8 @@ use native.Mathlib.Omega.{arith}
 use borrow.Author.Needs.{needs}
 use Rattle.rules.proofs.Effects.{size-most}
 use Rattle.layout.specs.Picture.{cacheIn}
+use Rattle.room.proofs.Outcomes.{words-fit}
 use Rattle.admission.proofs.Admitted.{admitted-good, admitted-free, admitted-absent}
-use Rattle.edits.proofs.Outcomes.{words-fit}
 use Rattle.insert.proofs.Answers.{insert-full, insert-done}
 use Rattle.insert.proofs.insert_new.Statement.{statement}
 use Rattle.insert.proofs.insert_new.Tie as tie

@@ -4,7 +4,7 @@ use native.Mathlib.Omega.{arith}
 use borrow.Author.Needs.{needs}
 use Rattle.rules.proofs.Effects.{size-most}
 use Rattle.layout.specs.Picture.{cacheIn}
-use Rattle.edits.proofs.Outcomes.{words-fit}
+use Rattle.room.proofs.Outcomes.{words-fit}
 use Rattle.protect.proofs.Answers.{protect-full, protect-missed}
 use Rattle.protect.proofs.Missed.{load-asks, missed-asks, missed-did}
 use Rattle.protect.proofs.miss.Statement.{statement}

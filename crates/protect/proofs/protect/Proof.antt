@@ -3,7 +3,7 @@ use mathlib.Core.Path.{sym, _∙_}
 use borrow.Author.Needs.{needs}
 use Rattle.layout.specs.Picture.{cacheIn}
 use Rattle.table.proofs.Told.{found-at, found-no}
-use Rattle.edits.proofs.Outcomes.{words-told}
+use Rattle.room.proofs.Outcomes.{words-told}
 use Rattle.protect.proofs.Answers.{protect-words, protect-address, protect-size}
 use Rattle.protect.proofs.protect.Statement.{statement}
 use Rattle.protect.proofs.protect.Tie as tie

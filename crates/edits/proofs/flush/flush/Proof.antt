@@ -9,8 +9,8 @@ use borrow.Author.Tests.{ltb-false}
 use Rattle.rules.specs.Refusals.{isStandby}
 use Rattle.layout.proofs.Held.{holds-good}
 use Rattle.layout.specs.Picture.{cacheIn}
+use Rattle.room.proofs.Outcomes.{words-told}
 use Rattle.edits.proofs.Answers.{flush-words, flush-mode, flush-held, flush-done}
-use Rattle.edits.proofs.Outcomes.{words-told}
 use Rattle.edits.proofs.flush.flush.Statement.{statement}
 use Rattle.edits.proofs.flush.flush.Tie as tie
 

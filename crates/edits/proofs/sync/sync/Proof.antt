@@ -6,8 +6,8 @@ use borrow.Author.Tests.{not-true, not-false}
 use Rattle.rules.specs.Refusals.{isLead}
 use Rattle.layout.proofs.Held.{holds-good}
 use Rattle.layout.specs.Picture.{cacheIn}
+use Rattle.room.proofs.Outcomes.{words-told, words-fit}
 use Rattle.edits.proofs.Answers.{sync-words, sync-mode, sync-done}
-use Rattle.edits.proofs.Outcomes.{words-told, words-fit}
 use Rattle.edits.proofs.sync.sync.Statement.{statement}
 use Rattle.edits.proofs.sync.sync.Tie as tie
 

@@ -6,8 +6,8 @@ use lib.ListN.{length}
 use Rattle.rules.proofs.Moved.{left}
 use Rattle.layout.proofs.Held.{holds-cache}
 use Rattle.layout.specs.Picture.{cacheIn, restIn}
-use Rattle.room.proofs.Kept.{gave, kept-good}
-use Rattle.epoch.proofs.Aging.{is-so, is-not, Aging, aging-start, within, evicts-one, writes-one, aging-young, aging-dirty, aging-evict, aging-write, aging-end, aging-in}
+use Rattle.room.proofs.Kept.{gave, kept-good, is-so, is-not}
+use Rattle.epoch.proofs.Aging.{Aging, aging-start, within, evicts-one, writes-one, aging-young, aging-dirty, aging-evict, aging-write, aging-end, aging-in}
 use native.Mathlib.Omega.{arith}
 use borrow.Author.Needs.{needs}
 use Rattle.epoch.proofs.age.expel.Statement.{statement}

@@ -1,7 +1,8 @@
--- With evictions off nothing is done; with them on the mode's pass is.
+-- With evictions off nothing is done; with them on both steps are, as the mode has them.
 use mathlib.Core.Path.{sym, ap, _∙_}
 use borrow.Author.Tests.{not-true, not-false}
 use Rattle.settings.specs.declared.Settings.{Settings}
+use Rattle.rules.proofs.Moves.{mayWrite}
 use Rattle.layout.specs.Picture.{cacheIn}
 use Rattle.room.proofs.Joined.{room-off, room-on}
 use borrow.Author.Needs.{needs}
@@ -16,13 +17,19 @@ same-length c = search needs
 
 returns : tie.Need-returns
 returns c =
-    room-off (c .before .before .before .before .before .before .args .size) (c .before .before .before .before .before .before .args .row) (c .before .before .before .before .before .before .pre .0 .good) (sym (ap (λ (s : Settings). s .evictions) (c .before .before .settings .ensures)) ∙ not-true _ (c .if1 .taken))
+    let s = c .before .before .before .before .before .before in
+    room-off (s .args .size) (s .args .row) (s .pre .0 .good) (sym (ap (λ (s : Settings). s .evictions) (c .before .before .settings .ensures)) ∙ not-true _ (c .if1 .taken))
 
 mode-requires : tie.Need-mode-requires
 mode-requires c κs = search needs
 
+is-alone-requires : tie.Need-is-alone-requires
+is-alone-requires c κs = search needs
+
 room-in-requires : tie.Need-room-in-requires
-room-in-requires c κs = search needs
+room-in-requires c κs =
+    let s = c .before .before .before .before .before .before .before .before .before .before .before in
+    (s .pre .0, c .before .before .is-alone .ensures ∙ ap mayWrite (c .before .before .before .mode .ensures), s .pre .1, s .pre .2)
 
 same-length-2 : tie.Need-same-length-2
 same-length-2 c = search needs
@@ -32,8 +39,8 @@ same-length-3 c = search needs
 
 returns-2 : tie.Need-returns-2
 returns-2 c =
-    room-on (c .before .before .before .before .before .before .before .before .before .before .before .before .before .before .before .args .size) (c .before .before .before .before .before .before .before .before .before .before .before .before .before .before .before .args .row) (cacheIn (c .before .before .before .before .before .before .before .before .before .before .before .before .before .before .before .args .table .now)) (sym (ap (λ (s : Settings). s .evictions) (c .before .before .before .before .before .before .before .before .before .before .before .settings .ensures)) ∙ not-false _ (c .before .before .before .before .before .before .before .before .before .if1 .left))
-    (rw (c .before .before .before .before .before .before .before .mode .ensures) at (c .before .before .before .before .room-in .ensures))
+    let s = c .before .before .before .before .before .before .before .before .before .before .before .before .before .before .before .before in
+    room-on (s .args .size) (s .args .row) (cacheIn (s .args .table .now)) (sym (ap (λ (s : Settings). s .evictions) (c .before .before .before .before .before .before .before .before .before .before .before .before .settings .ensures)) ∙ not-false _ (c .before .before .before .before .before .before .before .before .before .before .if1 .left)) (c .before .before .before .before .room-in .ensures)
 
 pub make-room-spec : {M : Type 1} → statement M
 make-room-spec =
@@ -43,6 +50,7 @@ make-room-spec =
     same-length
     returns
     mode-requires
+    is-alone-requires
     room-in-requires
     same-length-2
     same-length-3

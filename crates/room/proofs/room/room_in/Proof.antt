@@ -1,27 +1,13 @@
--- Each mode has its pass.
-use Rattle.layout.specs.Picture.{cacheIn}
-use Rattle.room.proofs.Joined.{lead-is, standby-is}
+-- What the first step leaves lets the second begin, and both together are the rule; in the modes that don't write the first is all.
+use borrow.Author.Tests.{not-true, not-false}
+use Rattle.room.proofs.Joined.{other-joins, first-good, first-fits, alone-joins}
+use native.Mathlib.Omega.{arith}
 use borrow.Author.Needs.{needs}
 use Rattle.room.proofs.room.room_in.Statement.{statement}
 use Rattle.room.proofs.room.room_in.Tie as tie
 
-enum-told : tie.Need-enum-told
-enum-told c = search needs
-
-room-alone-requires : tie.Need-room-alone-requires
-room-alone-requires c κs = search needs
-
-enum-told-2 : tie.Need-enum-told-2
-enum-told-2 c = search needs
-
-evict-clean-requires : tie.Need-evict-clean-requires
-evict-clean-requires c κs = search needs
-
-enum-told-3 : tie.Need-enum-told-3
-enum-told-3 c = search needs
-
-evict-clean-requires-2 : tie.Need-evict-clean-requires-2
-evict-clean-requires-2 c κs = search needs
+evict-until-requires : tie.Need-evict-until-requires
+evict-until-requires c κs = search needs
 
 same-length : tie.Need-same-length
 same-length c = search needs
@@ -30,7 +16,19 @@ same-length-2 : tie.Need-same-length-2
 same-length-2 c = search needs
 
 returns : tie.Need-returns
-returns c = rw (c .before .before .before .before .before .before .before .enum-told .given .1) (c .before .before .before .before .room-alone .ensures)
+returns c =
+    let s = c .before .before .before .before .before .before .before .before .before .before in
+    other-joins (s .args .size) (s .args .row) (s .pre .0) (c .before .before .before .before .before .evict-until .ensures .did) (s .pre .1) (not-true _ (c .if1 .taken))
+
+write-dirty-requires : tie.Need-write-dirty-requires
+write-dirty-requires c κs =
+    let s = c .before .before .before .before .before .before .before .before .before .before .before .before in
+    let d = c .before .before .before .before .before .before .before .evict-until .ensures .did in
+    let a = not-false (s .args .alone) (c .before .before .if1 .left) in (
+      first-good (s .args .size) (s .args .row) (s .pre .0) d a,
+      s .pre .2,
+      first-fits (s .args .size) (s .args .row) (s .pre .0) d a (s .pre .3) (omega (arith, c .before .before .before .before .before .before .before .evict-until .kept .1)),
+    )
 
 same-length-3 : tie.Need-same-length-3
 same-length-3 c = search needs
@@ -39,33 +37,19 @@ same-length-4 : tie.Need-same-length-4
 same-length-4 c = search needs
 
 returns-2 : tie.Need-returns-2
-returns-2 c = rw (c .before .before .before .before .before .before .before .enum-told2 .given .1) (lead-is (c .before .before .before .before .before .before .before .before .before .before .before .args .size) (c .before .before .before .before .before .before .before .before .before .before .before .args .row) (cacheIn (c .before .before .before .before .before .before .before .before .before .before .before .args .table .now)) (c .before .before .before .before .evict-clean .ensures))
-
-same-length-5 : tie.Need-same-length-5
-same-length-5 c = search needs
-
-same-length-6 : tie.Need-same-length-6
-same-length-6 c = search needs
-
-returns-3 : tie.Need-returns-3
-returns-3 c = rw (c .before .before .before .before .before .before .before .enum-told3 .given .1) (standby-is (c .before .before .before .before .before .before .before .before .before .before .before .args .size) (c .before .before .before .before .before .before .before .before .before .before .before .args .row) (cacheIn (c .before .before .before .before .before .before .before .before .before .before .before .args .table .now)) (c .before .before .before .before .evict-clean2 .ensures))
+returns-2 c =
+    let s = c .before .before .before .before .before .before .before .before .before .before .before .before .before .before .before .before .before in
+    alone-joins (s .args .size) (s .args .row) (s .pre .0) (c .before .before .before .before .before .before .before .before .before .before .before .before .evict-until .ensures .did) (not-false _ (c .before .before .before .before .before .before .before .if1 .left)) (s .pre .1) (c .before .before .before .before .write-dirty .ensures)
 
 pub room-in-spec : {M : Type 1} → statement M
 room-in-spec =
     tie.close
     (tie.spec
-    enum-told
-    room-alone-requires
-    enum-told-2
-    evict-clean-requires
-    enum-told-3
-    evict-clean-requires-2
+    evict-until-requires
     same-length
     same-length-2
     returns
+    write-dirty-requires
     same-length-3
     same-length-4
-    returns-2
-    same-length-5
-    same-length-6
-    returns-3)
+    returns-2)

@@ -1,11 +1,11 @@
 -- What a request on a table leaves and answers.
 use Prim.Native.Nat.{ℕ}
 use mathlib.Core.Path.{_≡_}
-use mathlib.Core.List.{List, []}
+use mathlib.Core.List.{List}
 use Rattle.rules.specs.declared.answer.Answer.{Answer}
 use Rattle.rules.specs.Requests.{Outcome}
 use Rattle.layout.specs.Holds.{Holds}
 use Rattle.room.specs.Did.{putOrders}
 
 -- The answer is the outcome's, and the table holds its cache.
 pub record Changed (o : Outcome) (rest table : List ℕ) (r : Answer) : Type 0 where

@@ -15,8 +15,8 @@ use Rattle.rules.specs.Requests.{Outcome, effect, judged, step}
 use Rattle.rules.specs.declared.answer.Answer.the-variants.{Accepted, Refused}
 use Rattle.rules.specs.declared.answer.Refusal.{Refusal}
 use Rattle.layout.specs.Holds.{Holds}
+use Rattle.room.specs.Answered.{Changed, Answered}
 use Rattle.room.specs.Did.{putOrders, Did, Fits}
-use Rattle.edits.specs.Answered.{Changed, Answered}
 
 -- ---- the first test that passes
 
