@@ -20,6 +20,7 @@ pub use hold::less_one;
 pub use limits::bad_address;
 pub use limits::bad_size;
 pub use limits::count_with;
+pub use limits::is_alone;
 pub use limits::is_lead;
 pub use limits::is_standby;
 pub use limits::too_few_words;

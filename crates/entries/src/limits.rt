@@ -3,7 +3,7 @@ ghost use mathlib.Core.Path.{_≡_};
 ghost use Prim.Native.Nat.{_+_, _*_, _≤_, min};
 ghost use lib.Dec.{ltb};
 ghost use Rattle.rules.specs.Limits.{countStop, mostSize, mostRows};
-ghost use Rattle.rules.specs.Refusals.{badAddress, badSize, isStandby, isLead};
+ghost use Rattle.rules.specs.Refusals.{badAddress, badSize, isAlone, isStandby, isLead};
 use rules::request::Mode;
 
 const ALL_ONES: u64 = 0xffff_ffff_ffff_ffff;
@@ -30,6 +30,16 @@ pub fn too_few_words(rows: usize, lent: usize) -> bool
     ensures { λ r. ⌜ r ≡ ltb lent (3 * (2 * rows + 1)) ⌝ }
 {
     lent < 3 * (2 * rows + 1)
+}
+
+pub fn is_alone(mode: Mode) -> bool
+    ensures { λ r. ⌜ r ≡ isAlone mode ⌝ }
+{
+    match mode {
+        Mode::Alone => true,
+        Mode::Lead => false,
+        Mode::Standby => false,
+    }
 }
 
 pub fn is_standby(mode: Mode) -> bool

@@ -12,7 +12,7 @@ use lib.Seq.{drop-cons}
 use borrow.Author.Tests.{eq-eqb}
 use Rattle.rules.proofs.Found.{get-amend, length-remove, length-amend}
 use Rattle.rules.proofs.Moved.{left}
-use Rattle.rules.proofs.Moves.{mayWrite}
+use Rattle.rules.specs.Refusals.{isAlone}
 use Rattle.rules.specs.Cache.{Cache, Work, start, give, amendAt}
 use Rattle.rules.specs.Entries.{if_then_else_, cleaned}
 use Rattle.rules.specs.Resizing.{agedAt, expel, evictAged}
@@ -45,13 +45,13 @@ expel-clean Lead a w d = ap (λ (b : Bool). if b then w else evict a w) d
 expel-clean Standby a w d = ap (λ (b : Bool). if b then w else evict a w) d
 
 -- a dirty one is kept where nothing is written
-expel-dirty : (m : Mode) (a : ℕ) (w : Work) → mayWrite m ≡ false → dirtyAt (w .cache .rows) a ≡ true → expel m a w ≡ w
+expel-dirty : (m : Mode) (a : ℕ) (w : Work) → isAlone m ≡ false → dirtyAt (w .cache .rows) a ≡ true → expel m a w ≡ w
 expel-dirty Alone a w h d = absurd (true≢false h)
 expel-dirty Lead a w h d = ap (λ (b : Bool). if b then w else evict a w) d
 expel-dirty Standby a w h d = ap (λ (b : Bool). if b then w else evict a w) d
 
 -- and written before it goes where writing is allowed
-expel-written : (m : Mode) (a : ℕ) (w : Work) → mayWrite m ≡ true → dirtyAt (w .cache .rows) a ≡ true → expel m a w ≡ evict a (writeInPlace a w)
+expel-written : (m : Mode) (a : ℕ) (w : Work) → isAlone m ≡ true → dirtyAt (w .cache .rows) a ≡ true → expel m a w ≡ evict a (writeInPlace a w)
 expel-written Alone a w h d = ap (λ (b : Bool). if b then evict a (writeInPlace a w) else evict a w) d
 expel-written Lead a w h d = absurd (true≢false (sym h))
 expel-written Standby a w h d = absurd (true≢false (sym h))
@@ -96,12 +96,12 @@ module _ (n : ℕ) (c : Cache) (orders : List Order) (pos : ℕ) (low : pos < le
 pub record Aging (n : ℕ) (writes : Bool) (c₀ : Cache) (rows before : ℕ) (rest lent table words : List ℕ) (listed pos given : ℕ) (c : Cache) : Type 0 where
   pub orders : List Order
   pub kept : Kept rows before rest lent table words given c orders
-  pub may : writes ≡ mayWrite (c .mode)
+  pub may : writes ≡ isAlone (c .mode)
   pub listed-is : listed ≡ length (c .recency)
   pub low : pos ≤ listed
   pub to-do : evictAged n (drop pos (c .recency)) (work c orders) ≡ evictAged n (c₀ .recency) (start c₀)
 
-pub aging-start : {rows before : ℕ} {table lent : List ℕ} {listed : ℕ} {writes : Bool} (n : ℕ) → GoodRows table rows → writes ≡ mayWrite (cacheIn table .mode) → Fits (cacheIn table) before lent
+pub aging-start : {rows before : ℕ} {table lent : List ℕ} {listed : ℕ} {writes : Bool} (n : ℕ) → GoodRows table rows → writes ≡ isAlone (cacheIn table .mode) → Fits (cacheIn table) before lent
     → listed ≡ length (cacheIn table .recency)
     → Aging n writes (cacheIn table) rows before (restIn table) lent table lent listed 0 before (cacheIn table)
 aging-start n g m f l = record { orders = []; kept = kept-start g f; may = m; listed-is = l; low = omega arith; to-do = refl }

@@ -2,13 +2,14 @@
 ghost use mathlib.Core.Path.{_≡_};
 ghost use Prim.Native.Nat.{_<_};
 ghost use lib.ListN.{length};
-ghost use Rattle.rules.proofs.Moves.{mayWrite};
 ghost use Rattle.rules.specs.Cache.{start};
 ghost use Rattle.rules.specs.Resizing.{agedAt, evictAged};
+ghost use Rattle.rules.specs.Refusals.{isAlone};
 ghost use Rattle.layout.specs.Picture.{cacheIn, restIn};
 ghost use Rattle.room.specs.Did.{Did, Fits};
 ghost use Rattle.table.specs.Asked.{GoodRows};
 ghost use Rattle.table.specs.Told.{listedAt};
+use entries::is_alone;
 use layout::row::entry_at;
 use rules::request::Mode;
 use table::lookup::dirty_at;
@@ -36,7 +37,7 @@ fn expel(
     epochs: u64,
     before: usize,
 ) -> usize
-    requires { ⌜ GoodRows (now table) rows × (writes ≡ mayWrite (cacheIn (now table) .mode)) × Fits (cacheIn (now table)) before (now orders) ⌝ }
+    requires { ⌜ GoodRows (now table) rows × (writes ≡ isAlone (cacheIn (now table) .mode)) × Fits (cacheIn (now table)) before (now orders) ⌝ }
     ensures { λ r. ⌜ Did (evictAged epochs (cacheIn (now (table .entry)) .recency) (start (cacheIn (now (table .entry))))) (restIn (now (table .entry))) (now (table .exit)) before (now (orders .entry)) (now (orders .exit)) r ⌝ }
 {
     let mut listed = listed_len(table, rows);
@@ -71,9 +72,6 @@ pub fn evict_aged(
     requires { ⌜ GoodRows (now table) rows × (mode ≡ cacheIn (now table) .mode) × Fits (cacheIn (now table)) before (now orders) ⌝ }
     ensures { λ r. ⌜ Did (evictAged epochs (cacheIn (now (table .entry)) .recency) (start (cacheIn (now (table .entry))))) (restIn (now (table .entry))) (now (table .exit)) before (now (orders .entry)) (now (orders .exit)) r ⌝ }
 {
-    match mode {
-        Mode::Alone => expel(table, orders, rows, true, epochs, before),
-        Mode::Lead => expel(table, orders, rows, false, epochs, before),
-        Mode::Standby => expel(table, orders, rows, false, epochs, before),
-    }
+    let writes = is_alone(mode);
+    expel(table, orders, rows, writes, epochs, before)
 }

@@ -6,8 +6,9 @@ use mathlib.Core.Path.{_≡_, refl, sym, ap, subst, _∙_}
 use native.Mathlib.Omega.{arith}
 use lib.ListN.{length}
 use Rattle.rules.proofs.Moved.{Moved, moved}
-use Rattle.rules.proofs.Moves.{tail-moves, mayWrite}
+use Rattle.rules.proofs.Moves.{tail-moves}
 use Rattle.rules.proofs.Tests.{choose, either}
+use Rattle.rules.specs.Refusals.{isAlone}
 use Rattle.rules.specs.Cache.{Cache, Work, start}
 use Rattle.rules.specs.Room.{evictClean, writeDirty, roomIn, makeRoom}
 use Rattle.rules.specs.declared.request.Mode.{Mode}
@@ -26,12 +27,12 @@ use Rattle.room.specs.First.{evictIn}
 
 -- the mode's rule, by whether the mode may write
 module _ (x : ℕ) (row : Bool) (w : Work) where
-  room-alone : (m : Mode) → mayWrite m ≡ true → roomIn m x row w ≡ roomIn Alone x row w
+  room-alone : (m : Mode) → isAlone m ≡ true → roomIn m x row w ≡ roomIn Alone x row w
   room-alone Alone h = refl
   room-alone Lead h = absurd (true≢false (sym h))
   room-alone Standby h = absurd (true≢false (sym h))
 
-  room-other : (m : Mode) → mayWrite m ≡ false → roomIn m x row w ≡ evictClean x row (w .cache .recency) w
+  room-other : (m : Mode) → isAlone m ≡ false → roomIn m x row w ≡ evictClean x row (w .cache .recency) w
   unfolding roomIn
   room-other Alone h = absurd (true≢false h)
   room-other Lead h = refl
@@ -40,7 +41,7 @@ module _ (x : ℕ) (row : Bool) (w : Work) where
 module _ {table lent table₁ words₁ : List ℕ} {rows before given : ℕ} {alone : Bool} (x : ℕ) (row : Bool) (g : GoodRows table rows)
     (d : Did (evictIn alone x row (cacheIn table)) (restIn table) table₁ before lent words₁ given) where
   -- in the other modes the first step is all
-  pub other-joins : alone ≡ mayWrite (cacheIn table .mode) → alone ≡ false
+  pub other-joins : alone ≡ isAlone (cacheIn table .mode) → alone ≡ false
       → Did (roomIn (cacheIn table .mode) x row (start (cacheIn table))) (restIn table) table₁ before lent words₁ given
   other-joins m a = rw (room-other x row (start (cacheIn table)) (cacheIn table .mode) (sym m ∙ a)) (rw a at d)
 
@@ -64,7 +65,7 @@ module _ {table lent table₁ words₁ : List ℕ} {rows before given : ℕ} {al
         let e = first .number in
         rw (holds-cache (first .holds)) (omega arith)
 
-    pub alone-joins : {table₂ words₂ : List ℕ} {r : ℕ} → alone ≡ mayWrite (cacheIn table .mode)
+    pub alone-joins : {table₂ words₂ : List ℕ} {r : ℕ} → alone ≡ isAlone (cacheIn table .mode)
         → Did (writeDirty x (cacheIn table₁ .recency) (start (cacheIn table₁))) (restIn table₁) table₂ given words₁ words₂ r
         → Did (roomIn (cacheIn table .mode) x row (start (cacheIn table))) (restIn table) table₂ before lent words₂ r
     unfolding roomIn

@@ -1,28 +1,18 @@
 // Both steps.
 ghost use mathlib.Core.Path.{_≡_};
 ghost use Prim.Native.Nat.{_≤_};
-ghost use Rattle.rules.proofs.Moves.{mayWrite};
 ghost use Rattle.rules.specs.Cache.{start};
 ghost use Rattle.rules.specs.Limits.{mostSize};
 ghost use Rattle.rules.specs.Room.{roomIn, makeRoom};
+ghost use Rattle.rules.specs.Refusals.{isAlone};
 ghost use Rattle.layout.specs.Picture.{cacheIn, restIn};
 ghost use Rattle.table.specs.Asked.{GoodRows};
 ghost use Rattle.room.specs.Did.{Did, Fits};
 use crate::pass::evict_until;
 use crate::share::write_dirty;
-use rules::request::Mode;
+use entries::is_alone;
 use table::header::mode;
 use table::header::settings;
-
-fn is_alone(mode: Mode) -> bool
-    ensures { λ r. ⌜ r ≡ mayWrite mode ⌝ }
-{
-    match mode {
-        Mode::Alone => true,
-        Mode::Lead => false,
-        Mode::Standby => false,
-    }
-}
 
 // The first step, and alone the clean share too.
 fn room_in(
@@ -34,7 +24,7 @@ fn room_in(
     row: bool,
     before: usize,
 ) -> usize
-    requires { ⌜ GoodRows (now table) rows × (alone ≡ mayWrite (cacheIn (now table) .mode)) × (size ≤ mostSize) × Fits (cacheIn (now table)) before (now orders) ⌝ }
+    requires { ⌜ GoodRows (now table) rows × (alone ≡ isAlone (cacheIn (now table) .mode)) × (size ≤ mostSize) × Fits (cacheIn (now table)) before (now orders) ⌝ }
     ensures { λ r. ⌜ Did (roomIn (cacheIn (now (table .entry)) .mode) size row (start (cacheIn (now (table .entry))))) (restIn (now (table .entry))) (now (table .exit)) before (now (orders .entry)) (now (orders .exit)) r ⌝ }
 {
     let made = evict_until(table, orders, rows, alone, size, row, before);

@@ -25,7 +25,7 @@ use Rattle.rules.specs.Entries.{isHeld, isListed, forbids, joined, lessO
 use Rattle.rules.specs.History.{evictedBytes, broughtIn, newSize, oldSize, thrownAway}
 use Rattle.rules.specs.Kept.{Kept}
 use Rattle.rules.specs.Limits.{mostSize}
-use Rattle.rules.specs.Refusals.{tests, firstOf, badAddress, badSize, noRow}
+use Rattle.rules.specs.Refusals.{isAlone, tests, firstOf, badAddress, badSize, noRow}
 use Rattle.rules.specs.Requests.{effect, loaded, hit, missed, roomIfReleased, named, adds, writesOf, configured}
 use Rattle.rules.specs.Resizing.{flashed, flashedTo}
 use Rattle.rules.specs.Room.{makeRoom}
@@ -35,7 +35,7 @@ use Rattle.rules.proofs.Fit.{Fit, fit-remove, fit-amend, fit-place, fit
 use Rattle.rules.proofs.Found.{length-remove, length-amend, length-each, length-place, absent}
 use Rattle.rules.proofs.Free.{room-free}
 use Rattle.rules.proofs.Moved.{moved, ordersLeft, left, left-most, evicted-append}
-use Rattle.rules.proofs.Moves.{Moves, moves-sound, mayWrite, room-moves, room-after, dirty-moves, sound-listed, sound-remove, sound-amend, sound-same, same-list}
+use Rattle.rules.proofs.Moves.{Moves, moves-sound, room-moves, room-after, dirty-moves, sound-listed, sound-remove, sound-amend, sound-same, same-list}
 use Rattle.rules.proofs.Sound.{sound-touch, sound-place, sound-load, sound-clean}
 use Rattle.rules.proofs.Steps.{failed}
 use Rattle.rules.proofs.Tests.{split, choose, neither}
@@ -60,7 +60,7 @@ abbrev pub roomFor : ℕ → Cache → Work
 roomFor s c = makeRoom s true (start (flashed s c))
 
 pub record Ready (a s : ℕ) (c : Cache) : Type 0 where
-  pub moves : Moves (mayWrite (c .mode)) true (start c) (roomFor s c)
+  pub moves : Moves (isAlone (c .mode)) true (start c) (roomFor s c)
   pub sound : Sound (roomFor s c .cache)
   pub free : hasFree (roomFor s c .cache .rows) ≡ true
   pub absent : get (roomFor s c .cache .rows) a ≡ none

@@ -19,14 +19,14 @@ use Rattle.rules.specs.Cache.{Cache, Work, start, touch, withRows}
 use Rattle.rules.specs.Entries.{if_then_else_, cleaned, changedTo, protectedFor, released, withPin, newEntry, joined}
 use Rattle.rules.specs.Ledger.{Ledger, Shared, insert, changed, resize, discard, Local, protect, unchanged, pin, unpin, configure, hear, hearList, names, noted, isIn, dirtySize, ledgerOf}
 use Rattle.rules.specs.Limits.{countStop}
-use Rattle.rules.specs.Refusals.{tests, firstOf}
+use Rattle.rules.specs.Refusals.{isAlone, tests, firstOf}
 use Rattle.rules.specs.Requests.{effect, adds, inserted, loaded, named, configured, cleanEach}
 use Rattle.rules.specs.Resizing.{older}
 use Rattle.rules.specs.Rows.{get, passes, amend, amendEach, place, isHere}
 use Rattle.rules.proofs.Effects.{Ready, ready, roomFor, named-books, named-sound}
 use Rattle.rules.proofs.Epochs.{count-moves, released-moves}
 use Rattle.rules.proofs.Found.{get-remove, get-amend, get-amendAll, get-place, absent}
-use Rattle.rules.proofs.Moves.{Moves, done, evicts, writes, tunes, ages, moves-mode, mayWrite, room-moves, sound-same}
+use Rattle.rules.proofs.Moves.{Moves, done, evicts, writes, tunes, ages, moves-mode, room-moves, sound-same}
 use Rattle.rules.proofs.Sound.{sound-touch, sound-load}
 use Rattle.rules.proofs.Steps.{failed}
 use Rattle.rules.proofs.Tests.{split, choose, if-same, either}
@@ -101,7 +101,7 @@ moves-ledger h (ages {w} y m) = moves-ledger h m ∙ same-ledger (λ b. rw (get-
 
 -- ---- an entry comes
 
-module _ (a s : ℕ) (c : Cache) (host : mayWrite (c .mode) ≡ false) (gone : get (c .rows) a ≡ none) (r : Ready a s c) where
+module _ (a s : ℕ) (c : Cache) (host : isAlone (c .mode) ≡ false) (gone : get (c .rows) a ≡ none) (r : Ready a s c) where
   new-sizes : (d : Bool) (h : Hold) (b : ℕ) → dirtySize (get (place (newEntry a s d h) (roomFor s c .cache .rows)) b)
       ≡ (if eqb a b then (if d then some s else none) else dirtySize (get (c .rows) b))
   new-sizes d h b =
@@ -120,7 +120,7 @@ module _ (a s : ℕ) (c : Cache) (host : mayWrite (c .mode) ≡ false) (gone : g
 
 -- ---- shared changes and local requests
 
-module _ (c : Cache) (lent : ℕ) (list : List ℕ) (k : Sound c) (host : mayWrite (c .mode) ≡ false) where
+module _ (c : Cache) (lent : ℕ) (list : List ℕ) (k : Sound c) (host : isAlone (c .mode) ≡ false) where
   pub shared-follows : {r : Request} (x : Shared r) → firstOf (tests c lent list r) ≡ none → ledgerOf (effect c list r .cache) ≡ hear x (ledgerOf c)
   unfolding tests effect hear
   shared-follows (insert a s) e =
@@ -130,7 +130,7 @@ module _ (c : Cache) (lent : ℕ) (list : List ℕ) (k : Sound c) (host : mayWri
       let f = failed (tests c lent list (ReleaseChanged a s)) e in
       let g : Entry → Entry = λ e. released (changedTo s e) in
       let d = touch a g (named a s c) in
-      moves-ledger (ap mayWrite (named-books a s c .mode) ∙ host) (released-moves {sets = false} a d (sound-touch a g (λ e. refl) (named a s c) (named-sound a s c k)))
+      moves-ledger (ap isAlone (named-books a s c .mode) ∙ host) (released-moves {sets = false} a d (sound-touch a g (λ e. refl) (named a s c) (named-sound a s c k)))
       ∙ ledger-named a g (λ e. refl) s (λ e. refl) (d .recency) c (not-false _ (f .1 .1 .1 .0))
   shared-follows (resize a s) e =
       let f = failed (tests c lent list (Resize a s)) e in
@@ -147,7 +147,7 @@ module _ (c : Cache) (lent : ℕ) (list : List ℕ) (k : Sound c) (host : mayWri
       ∙ ledger-stays a (protectedFor x) (λ e. refl) (λ e. refl) (d .recency) c)
       (λ p. let r = ready a s c k p (simp p at (f .1 .1 .1 .1 .0)) in
       let w = loaded x a s (roomFor s c) in
-      moves-ledger (ap mayWrite (moves-mode (r .moves)) ∙ host) (count-moves false w (sound-load x a s (roomFor s c .cache) (r .free) (r .absent) (r .sound)))
+      moves-ledger (ap isAlone (moves-mode (r .moves)) ∙ host) (count-moves false w (sound-load x a s (roomFor s c .cache) (r .free) (r .absent) (r .sound)))
       ∙ ledger-load a s c host (absent (get (c .rows) a) p) r x)
   local-keeps (unchanged a) e =
       let d = touch a released c in

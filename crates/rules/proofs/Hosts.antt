@@ -21,14 +21,13 @@ use Rattle.rules.specs.Hosts.{accepted, asking, Pending, settled, leadHa
 use Rattle.rules.specs.Ledger.{Ledger, blank, Shared, Local, Sends, hearList, isIn, dirtySize, ledgerOf, sentBy}
 use Rattle.rules.specs.Limits.{allOnes}
 use Rattle.rules.specs.Opening.{refusalOfOpening}
-use Rattle.rules.specs.Refusals.{Call, tests, firstOf, refusalOf}
+use Rattle.rules.specs.Refusals.{isAlone, Call, tests, firstOf, refusalOf}
 use Rattle.rules.specs.Requests.{effect, judged, step}
 use Rattle.rules.specs.Rows.{get, passes, dirtyAt}
 use Rattle.rules.proofs.Allowed.{step-allowed, fresh-allowed}
 use Rattle.rules.proofs.Follow.{same-ledger, dirty-in, shared-follows, local-keeps, takes-list}
 use Rattle.rules.proofs.Kept.{step-kept}
 use Rattle.rules.proofs.Lists.{elem-first, elem-rest}
-use Rattle.rules.proofs.Moves.{mayWrite}
 use Rattle.rules.proofs.Sent.{sends}
 use Rattle.rules.proofs.Sound.{none-free}
 use Rattle.rules.proofs.Steps.{stepped, step-refused, accepts}
@@ -49,9 +48,9 @@ goes {c = c} call h e =
     let k = step-kept c call (h .allowed .sound) in
     record { says = e; mode = k .mode ∙ h .mode; threshold = k .threshold ∙ h .threshold; allowed = step-allowed c call (h .allowed) }
 
-module _ {m : Mode} (host : mayWrite m ≡ false) {t : ℕ} {c : Cache} {l : Ledger} (h : Host m t c l) (call : Call) where
-  here : mayWrite (c .mode) ≡ false
-  here = ap mayWrite (h .mode) ∙ host
+module _ {m : Mode} (host : isAlone m ≡ false) {t : ℕ} {c : Cache} {l : Ledger} (h : Host m t c l) (call : Call) where
+  here : isAlone (c .mode) ≡ false
+  here = ap isAlone (h .mode) ∙ host
 
   host-local : Local (call .request) → Host m t (step c call .cache) l
   unfolding refusalOf

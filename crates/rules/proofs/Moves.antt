@@ -21,6 +21,7 @@ use Rattle.rules.specs.Rows.{get, passes, amend, amendAll, remove, clean
 use Rattle.rules.proofs.Found.{get-remove, get-amend, get-amendAll, distinct-remove, distinct-amend, distinct-amendAll, pass-map, present}
 use Rattle.rules.proofs.Lists.{elem-append, elem-first, elem-rest, elem-strike, twice-strike, twice-last}
 use Rattle.rules.proofs.Tests.{split, choose, both, neither, or-false, or-comm}
+use Rattle.rules.specs.Refusals.{isAlone}
 
 -- l has what m has, and nothing twice if m has not
 pub record SameList (l m : List ℕ) : Type 0 where
@@ -208,17 +209,12 @@ moves-mode (tunes n h k y m) = moves-mode m
 moves-mode (ages y m) = moves-mode m
 
 -- alone writes; a lead and a standby do not
-abbrev pub mayWrite : Mode → Bool
-mayWrite Alone = true
-mayWrite Lead = false
-mayWrite Standby = false
-
-pub room-moves : {sets : Bool} (x : ℕ) (row : Bool) (w : Work) → Sound (w .cache) → Moves (mayWrite (w .cache .mode)) sets w (makeRoom x row w)
+pub room-moves : {sets : Bool} (x : ℕ) (row : Bool) (w : Work) → Sound (w .cache) → Moves (isAlone (w .cache .mode)) sets w (makeRoom x row w)
 unfolding makeRoom roomIn
 room-moves {sets} x row w k =
-    choose (λ (v : Work). Moves (mayWrite (w .cache .mode)) sets w v) (w .cache .settings .evictions) (λ h. go (w .cache .mode)) (λ h. done)
+    choose (λ (v : Work). Moves (isAlone (w .cache .mode)) sets w v) (w .cache .settings .evictions) (λ h. go (w .cache .mode)) (λ h. done)
   where
-    go : (m : Mode) → Moves (mayWrite m) sets w (roomIn m x row w)
+    go : (m : Mode) → Moves (isAlone m) sets w (roomIn m x row w)
     go Alone =
         let n = length (w .cache .recency) + length (w .cache .recency) in
         let t = tail-moves n x row w k in
@@ -227,10 +223,10 @@ room-moves {sets} x row w k =
     go Lead = clean-moves x row (w .cache .recency) w (sound-listed w k)
     go Standby = clean-moves x row (w .cache .recency) w (sound-listed w k)
 
-pub room-after : {sets : Bool} {w v : Work} (x : ℕ) (row : Bool) → Sound (w .cache) → Moves (mayWrite (w .cache .mode)) sets w v
-    → Moves (mayWrite (w .cache .mode)) sets w (makeRoom x row v)
+pub room-after : {sets : Bool} {w v : Work} (x : ℕ) (row : Bool) → Sound (w .cache) → Moves (isAlone (w .cache .mode)) sets w v
+    → Moves (isAlone (w .cache .mode)) sets w (makeRoom x row v)
 room-after {sets} {v = v} x row k m =
-    moves-trans m (subst (λ (n : Mode). Moves (mayWrite n) sets v (makeRoom x row v)) (moves-mode m) (room-moves x row v (moves-sound m k)))
+    moves-trans m (subst (λ (n : Mode). Moves (isAlone n) sets v (makeRoom x row v)) (moves-mode m) (room-moves x row v (moves-sound m k)))
 
 -- ---- age-out
 
@@ -245,7 +241,7 @@ module _ (n a : ℕ) (l : List ℕ) (w : Work) (k : Listed (a ∷ l) w) (h : age
   evicts-aged : {may sets : Bool} → dirtyAt (w .cache .rows) a ≡ false → Moves may sets w (evict a w)
   evicts-aged d = evicts-one a l w k (clean-of _ (get (w .cache .rows) a) h d) done
 
-  expel-moves : {sets : Bool} (m : Mode) → Moves (mayWrite m) sets w (expel m a w)
+  expel-moves : {sets : Bool} (m : Mode) → Moves (isAlone m) sets w (expel m a w)
   expel-moves {sets} Alone =
       choose (λ (v : Work). Moves true sets w v) (dirtyAt (w .cache .rows) a)
       (λ d. writes-one a l w k (w .cache .recency) refl (same-list (w .cache .recency)) d
@@ -263,11 +259,11 @@ moves-listed l (writes {w} a e r y g x d s m) k = moves-listed l m (listed-write
 moves-listed l (tunes n h i y m) k = moves-listed l m k
 moves-listed l (ages {w} y m) k = moves-listed l m (listed-ages l w k)
 
-pub aged-moves : {sets : Bool} (m : Mode) (n : ℕ) (l : List ℕ) (w : Work) → w .cache .mode ≡ m → Listed l w → Moves (mayWrite m) sets w (evictAged n l w)
+pub aged-moves : {sets : Bool} (m : Mode) (n : ℕ) (l : List ℕ) (w : Work) → w .cache .mode ≡ m → Listed l w → Moves (isAlone m) sets w (evictAged n l w)
 unfolding evictAged
 aged-moves m n [] w e k = done
 aged-moves {sets} m n (a ∷ l) w e k =
-    let t : Moves (mayWrite m) sets w (if agedAt n (w .cache) a then expel (w .cache .mode) a w else w) =
-    choose (λ (v : Work). Moves (mayWrite m) sets w v) (agedAt n (w .cache) a)
-    (λ h. subst (λ (x : Mode). Moves (mayWrite m) sets w (expel x a w)) (sym e) (expel-moves n a l w k h m)) (λ h. done) in
+    let t : Moves (isAlone m) sets w (if agedAt n (w .cache) a then expel (w .cache .mode) a w else w) =
+    choose (λ (v : Work). Moves (isAlone m) sets w v) (agedAt n (w .cache) a)
+    (λ h. subst (λ (x : Mode). Moves (isAlone m) sets w (expel x a w)) (sym e) (expel-moves n a l w k h m)) (λ h. done) in
     moves-trans t (aged-moves m n l _ (moves-mode t ∙ e) (moves-listed l t (listed-rest a l w k)))

@@ -50,6 +50,11 @@ abbrev pub badSize : ℕ → Bool
 badSize s = eqb s 0 || ltb mostSize s
 
 -- 5: flush is meant for alone and lead, sync for lead, take for standby.
+abbrev pub isAlone : Mode → Bool
+isAlone Alone = true
+isAlone Lead = false
+isAlone Standby = false
+
 abbrev pub isStandby : Mode → Bool
 isStandby Alone = false
 isStandby Lead = false

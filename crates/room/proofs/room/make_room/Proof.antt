@@ -1,8 +1,8 @@
 -- With evictions off nothing is done; with them on both steps are, as the mode has them.
 use mathlib.Core.Path.{sym, ap, _∙_}
 use borrow.Author.Tests.{not-true, not-false}
+use Rattle.rules.specs.Refusals.{isAlone}
 use Rattle.settings.specs.declared.Settings.{Settings}
-use Rattle.rules.proofs.Moves.{mayWrite}
 use Rattle.layout.specs.Picture.{cacheIn}
 use Rattle.room.proofs.Joined.{room-off, room-on}
 use borrow.Author.Needs.{needs}
@@ -29,7 +29,7 @@ is-alone-requires c κs = search needs
 room-in-requires : tie.Need-room-in-requires
 room-in-requires c κs =
     let s = c .before .before .before .before .before .before .before .before .before .before .before in
-    (s .pre .0, c .before .before .is-alone .ensures ∙ ap mayWrite (c .before .before .before .mode .ensures), s .pre .1, s .pre .2)
+    (s .pre .0, c .before .before .is-alone .ensures ∙ ap isAlone (c .before .before .before .mode .ensures), s .pre .1, s .pre .2)
 
 same-length-2 : tie.Need-same-length-2
 same-length-2 c = search needs
