@@ -2,32 +2,28 @@
 use Prim.Native.Nat.{ℕ, _+_, _≤_, _<_}
 use mathlib.Core.Bool.{false, _||_}
 use mathlib.Core.List.{List, [], _∷_, _++_}
-use mathlib.Core.Option.{none}
 use mathlib.Core.Path.{_≡_, refl, sym, ap, subst, _∙_}
 use native.Mathlib.Numerals.{add-one}
 use native.Mathlib.Omega.{arith}
 use lib.Dec.{eqb}
 use lib.ListN.{length, getD, take, drop, drop-of-length-le}
 use lib.Seq.{take-all, take-suc, drop-cons}
-use Rattle.rules.proofs.Found.{get-amend, amend-absent, absent, length-each}
-use Rattle.rules.proofs.Tests.{split, neither}
+use Rattle.rules.proofs.Found.{get-amend, length-each}
+use Rattle.rules.proofs.Tests.{neither}
 use Rattle.rules.specs.Addresses.{elem}
 use Rattle.rules.specs.Cache.{Cache, withRows, amendAt}
 use Rattle.rules.specs.Entries.{cleaned}
-use Rattle.rules.specs.Rows.{get, amend, amendEach, isHere}
+use Rattle.rules.specs.Rows.{get, amend, amendEach}
 use Rattle.rules.specs.declared.entry.Entry.{Entry}
 use Rattle.rules.specs.declared.entry.Row.{Row}
 use Rattle.layout.proofs.Held.{holds-cache, holds-rest}
-use Rattle.layout.proofs.Rows.{addresses-amend}
+use Rattle.layout.proofs.Numbers.{elem-addresses}
+use Rattle.layout.proofs.Rows.{addresses-amend, number-amend}
 use Rattle.layout.specs.Holds.{Holds}
 use Rattle.layout.specs.Picture.{rowNumber, addresses, cacheIn, restIn}
-use Rattle.layout.specs.Places.{placeOf}
-use Rattle.table.proofs.Told.{found-here, found-none, good-rows}
+use Rattle.table.proofs.Told.{good-rows}
 use Rattle.table.specs.Asked.{GoodRows, RowOf}
-use Rattle.table.specs.Told.{foundIn}
-use Rattle.table.specs.declared.lookup.Found.the-variants.{At, Nothing}
-use Rattle.edits.specs.Listed.{dirtyRow, taken}
-use Rattle.edits.proofs.Marked.{row-none}
+use Rattle.edits.specs.Listed.{taken}
 
 -- ---- a list walked
 
@@ -39,24 +35,6 @@ module _ (a : ℕ) (l : List ℕ) (i : ℕ) where
   pub elem-end : length l ≤ i → elem a (drop i l) ≡ false
   unfolding elem
   elem-end h = rw (drop-of-length-le l h)
-
--- ---- what a find tells
-
-module _ (rows : List Row) (a : ℕ) where
-  pub found-row : {p r : ℕ} → foundIn rows a ≡ At p r → RowOf rows a r
-  found-row {p} {r} e =
-      split (isHere rows a)
-      (λ h. let q : At (placeOf a (addresses rows)) (rowNumber rows a) ≡ At p r = sym (found-here rows a h) ∙ e in record { number = cc; here = h })
-      (λ h. let q : Nothing ≡ At p r = sym (found-none rows a h) ∙ e in absurd (let z : _≡_ {A = ℕ} 0 1 = cc in omega arith))
-
-  pub found-absent : foundIn rows a ≡ Nothing → get rows a ≡ none
-  found-absent e =
-      split (isHere rows a)
-      (λ h. let q : At (placeOf a (addresses rows)) (rowNumber rows a) ≡ Nothing = sym (found-here rows a h) ∙ e in absurd (let z : _≡_ {A = ℕ} 0 1 = cc in omega arith))
-      (λ h. absent (get rows a) h)
-
-  pub absent-row : foundIn rows a ≡ Nothing → dirtyRow rows a ≡ length rows
-  absent-row e = row-none rows a (rw (found-absent e))
 
 -- ---- entries cleaned one by one
 
@@ -77,14 +55,24 @@ unfolding amendEach
 each-addresses [] rows = refl
 each-addresses (x ∷ p) rows = each-addresses p (amend x cleaned rows) ∙ addresses-amend x cleaned (λ e. refl) rows
 
--- no entry is there to clean
-pub clean-none : {ws : List ℕ} {c : Cache} {rest : List ℕ} (a : ℕ) → Holds ws c rest → foundIn (c .rows) a ≡ Nothing → Holds ws (amendAt a cleaned c) rest
-clean-none {ws} {c} {rest} a h e =
-    subst (λ (rows : List Row). Holds ws (withRows rows (c .recency) c) rest) (sym (amend-absent a cleaned (c .rows) (found-absent (c .rows) a e))) h
+each-number : (p : List ℕ) (rows : List Row) (a : ℕ) → rowNumber (amendEach p cleaned rows) a ≡ rowNumber rows a
+unfolding amendEach
+each-number [] rows a = refl
+each-number (x ∷ p) rows a = each-number p (amend x cleaned rows) a ∙ number-amend x cleaned (λ e. refl) rows a
+
+-- rows stay where they are
+pub each-row : (p : List ℕ) {rows : List Row} {a row : ℕ} → RowOf rows a row → RowOf (amendEach p cleaned rows) a row
+each-row p {rows} {a} r = record {
+  number = r .number ∙ sym (each-number p rows a);
+  here = sym (elem-addresses (amendEach p cleaned rows) a) ∙ ap (elem a) (each-addresses p rows) ∙ elem-addresses rows a ∙ r .here;
+}
 
 module _ {ws : List ℕ} (c : Cache) {rest : List ℕ} (p : List ℕ) (h : Holds ws (taken p c) rest) where
   pub taken-rows : {n : ℕ} → n ≡ length (c .rows) → GoodRows ws n
   taken-rows e = good-rows h (e ∙ sym (length-each p cleaned (c .rows)))
+
+  pub taken-row : {a row : ℕ} → RowOf (c .rows) a row → RowOf (cacheIn ws .rows) a row
+  taken-row r = rw (holds-cache h) (each-row p r)
 
   pub taken-last : {out : List ℕ} (a : ℕ) → Holds out (amendAt a cleaned (cacheIn ws)) (restIn ws) → Holds out (taken (p ++ a ∷ []) c) rest
   taken-last {out} a k =

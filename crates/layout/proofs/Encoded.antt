@@ -17,7 +17,6 @@ use Rattle.rules.specs.declared.entry.Row.{Row}
 use Rattle.rules.specs.Addresses.{elem, strike, twice}
 use Rattle.rules.specs.Allowed.{Distinct}
 use Rattle.rules.specs.Cache.{Cache, withRows, withSettings, withMaximum, withCounters, withCount, amendAt}
-use Rattle.rules.specs.Entries.{withIdle}
 use Rattle.rules.specs.Rows.{get, passes, amend, remove, place, hasFree}
 use Rattle.rules.proofs.Found.{length-amend, length-remove, length-place}
 use Rattle.rules.proofs.Lists.{elem-strike}
@@ -28,7 +27,7 @@ use Rattle.layout.specs.Picture.{rowNumber, addresses, rowWords, headWor
 use Rattle.layout.specs.Places.{lowestFree, placeOf}
 use Rattle.layout.proofs.Cuts.{cut, ins, cut-run, put-run, map-cut, map-ins, map-end, map-absent, map-same, cut-strike, insert-ins, place-low}
 use Rattle.layout.proofs.Numbers.{stands, elem-addresses, rising-addresses, addresses-remove, addresses-place, used-most}
-use Rattle.layout.proofs.Parts.{over-seam, row-put, row-word, idle-put, over-recency, recency-end, over-addresses}
+use Rattle.layout.proofs.Parts.{over-seam, row-put, row-word, word-put, over-recency, recency-end, over-addresses}
 use Rattle.layout.proofs.Rows.{amend-row, remove-row, place-row, lowest-low, number-remove, number-place, number-new, number-amend, addresses-amend}
 use Rattle.layout.proofs.Seams.{laid, length-head}
 
@@ -73,15 +72,15 @@ module _ (c : Cache) (rest : List ℕ) where
           (sym (ap (λ (x : ℕ). amend x f (c .rows)) (sym (s .address)) ∙ amend-row f (c .rows) (rowNumber (c .rows) a) e d (s .row)))
           ∙ amended
 
-  -- the idle word of a used row written
-  pub idle-encode : (i v : ℕ) (e : Entry) → Distinct (c .rows) → i < length (c .rows) → getD (c .rows) i Free ≡ Used e
-      → set (encode c rest) (rowAt i + 3) v ≡ encode (amendAt (e .address) (withIdle v) c) rest
+  -- one word of a used row written
+  pub word-encode : (i k v : ℕ) (f : Entry → Entry) → ((x : Entry) → f x .address ≡ x .address) → (e : Entry) → Distinct (c .rows) → i < length (c .rows) → k < width
+      → getD (c .rows) i Free ≡ Used e → set (rowWords (Used e)) k v ≡ rowWords (Used (f e)) → set (encode c rest) (rowAt i + k) v ≡ encode (amendAt (e .address) f c) rest
   unfolding encode
-  idle-encode i v e d low u =
-      idle-put (headWords c) (c .rows) (length-head c) _ _ rest i low e v u
+  word-encode i k v f keeps e d low q u w =
+      word-put (headWords c) (c .rows) (length-head c) _ _ rest i low e (f e) k v q u w
       ∙ ap (λ (rows : List Row). laid (headWords c) rows (numbers (c .recency)) (numbers (addresses (c .rows))) rest)
-      (sym (amend-row (withIdle v) (c .rows) i e d u))
-      ∙ amended (e .address) (withIdle v) (λ x. refl)
+      (sym (amend-row f (c .rows) i e d u))
+      ∙ amended (e .address) f keeps
 
   -- ---- off the list, and on it: no more is asked of the cache than that its list is no longer than its rows
 

@@ -9,7 +9,6 @@ use Rattle.rules.specs.declared.entry.Entry.{Entry}
 use Rattle.rules.specs.declared.entry.Row.the-variants.{Free, Used}
 use Rattle.rules.specs.declared.entry.Row.{Row}
 use Rattle.rules.specs.Allowed.{HoldAllowed}
-use Rattle.rules.specs.Entries.{withIdle}
 use Rattle.layout.specs.Layout.{headerWords, width, rowAt, recencyAt, addressesAt}
 use Rattle.layout.specs.Leaves.{over, putRow}
 use Rattle.layout.specs.Picture.{rowWords, rowsWords, run, entryOf}
@@ -72,11 +71,14 @@ module _ (head : List ℕ) (rows : List Row) (h : length head ≡ headerWords) (
       ∙ over-seam (λ old. rowWords x) before (rowWords (getD rows r Free)) after (rowAt r) width length-before (length-row (getD rows r Free))
       ∙ sym (row-set x)
 
-  pub idle-put : (e : Entry) (v : ℕ) → getD rows r Free ≡ Used e → set (laid head rows l m rest) (rowAt r + 3) v ≡ laid head (set rows r (Used (withIdle v e))) l m rest
-  idle-put e v u =
-      ap (λ (ws : List ℕ). set ws (rowAt r + 3) v) (row-at ∙ ap (λ (x : Row). before ++ (rowWords x ++ after)) u)
-      ∙ set-seam before (rowWords (Used e)) after (rowAt r) 3 v length-before (omega arith)
-      ∙ sym (row-set (Used (withIdle v e)))
+  -- one word of a used row written
+  pub word-put : (e f : Entry) (k v : ℕ) → k < width → getD rows r Free ≡ Used e → set (rowWords (Used e)) k v ≡ rowWords (Used f)
+      → set (laid head rows l m rest) (rowAt r + k) v ≡ laid head (set rows r (Used f)) l m rest
+  word-put e f k v q u w =
+      ap (λ (ws : List ℕ). set ws (rowAt r + k) v) (row-at ∙ ap (λ (x : Row). before ++ (rowWords x ++ after)) u)
+      ∙ set-seam before (rowWords (Used e)) after (rowAt r) k v length-before (omega arith)
+      ∙ ap (λ (x : List ℕ). before ++ (x ++ after)) w
+      ∙ sym (row-set (Used f))
 
   -- a word of the row
   pub row-word : (k : ℕ) → k < width → getD (laid head rows l m rest) (rowAt r + k) 0 ≡ getD (rowWords (getD rows r Free)) k 0

@@ -1,7 +1,7 @@
 // A row: the entry in it read, written and cleared.
 ghost use mathlib.Core.Path.{_≡_};
 ghost use Prim.Native.Nat.{_+_, _≤_};
-ghost use lib.ListN.{length};
+ghost use lib.ListN.{length, set};
 ghost use Rattle.rules.specs.declared.entry.Row.the-variants.{Free, Used};
 ghost use Rattle.layout.specs.Layout.{width, rowAt};
 ghost use Rattle.layout.specs.Picture.{entryOf};
@@ -41,6 +41,14 @@ pub fn put_entry(table: &mut [u64], row: usize, e: Entry)
     let own = [e.address, e.size, dirty, e.idle, pinned, hold];
     let at = HEADER + row * WIDTH;
     words::copy_in(&mut table[at..], &own);
+}
+
+// The entry in a row is clean.
+pub fn clear_dirty(table: &mut [u64], row: usize)
+    requires { ⌜ rowAt row + width ≤ length (now table) ⌝ }
+    ensures { λ _. ⌜ now (table .exit) ≡ set (now (table .entry)) (rowAt row + 2) 0 ⌝ }
+{
+    table[HEADER + row * WIDTH + 2] = 0;
 }
 
 pub fn clear_row(table: &mut [u64], row: usize)

@@ -25,7 +25,7 @@ use Rattle.rules.proofs.Tests.{split}
 use Rattle.layout.specs.Holds.{Holds}
 use Rattle.layout.specs.Layout.{rowAt}
 use Rattle.layout.specs.Picture.{rowWords, encode}
-use Rattle.layout.proofs.Encoded.{encode-word, idle-encode}
+use Rattle.layout.proofs.Encoded.{encode-word, word-encode}
 use Rattle.layout.proofs.Held.{holds, row-allowed}
 use Rattle.layout.proofs.ReadBack.{RowAllowed}
 use Rattle.layout.proofs.Rows.{amend-row}
@@ -127,7 +127,7 @@ module _ {ws : List ℕ} {c : Cache} {rest : List ℕ} (h : Holds ws c rest) whe
           let row = aged-row i (c .rows) ∙ e in
           let n = min (x .idle + 1) mostIdle in
           rw (ne-eqb _ 0 (λ q. let k = ok .nonempty in let z : x .size ≡ 0 = sym size ∙ q in omega arith), idle)
-          (idle-encode d rest i n x apart low row
+          (word-encode d rest i 3 n (withIdle n) (λ y. refl) x apart low (omega arith) row refl
           ∙ ap (λ (rows : List Row). encode (withRows rows (c .recency) c) rest)
           (amend-row (withIdle n) (agedTo i (c .rows)) i x apart row ∙ ap (λ (y : Row). set (agedTo i (c .rows)) i (olderRow y)) (sym e) ∙ aged-next i (c .rows) l))
 

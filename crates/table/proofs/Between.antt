@@ -65,6 +65,12 @@ place-is (b ∷ l) a (suc r) h u o =
 pub between-end : {l : List ℕ} {a low high : ℕ} → Between l a low high → high ≤ low → low ≡ placeOf a l
 between-end {l} {a} {low} k h = place-is l a low (let w = k .within in let o = k .order in omega arith) (k .under) (λ i b c. k .over i (omega arith) c)
 
+-- a place that has the address is its place
+pub place-at : (l : List ℕ) (a i : ℕ) → Rising l → i < length l → getD l i 0 ≡ a → i ≡ placeOf a l
+place-at l a i s h e =
+    place-is l a i (omega arith) (λ j k. omega (arith, rises l j i s k h))
+    (λ j k m. ⊎-elim (λ (q : i ≡ j). omega (arith, ap (λ (n : ℕ). getD l n 0) q)) (λ (q : i < j). omega (arith, rises l i j s q m)) (eq-or-lt-of-le k))
+
 -- an address that is there stands at its place
 pub place-elem : (a : ℕ) (l : List ℕ) → Rising l → elem a l ≡ true → PlaceIn l a (placeOf a l)
 unfolding elem placeOf

@@ -1,6 +1,6 @@
 -- An entry is written: it stays where it stands, or the tail goes to the head.
 use Prim.Native.Nat.{ℕ, _+_, _-_, _<_}
-use mathlib.Core.Bool.{Bool, false}
+use mathlib.Core.Bool.{Bool, true, false}
 use mathlib.Core.List.{List, [], _∷_, _++_}
 use mathlib.Core.Option.{some}
 use mathlib.Core.Path.{_≡_, refl, sym, ap, ap₂, _∙_}
@@ -11,19 +11,19 @@ use Rattle.rules.specs.declared.entry.Row.the-variants.{Used}
 use Rattle.rules.specs.declared.entry.Row.{Row}
 use Rattle.rules.specs.Addresses.{strike, twice}
 use Rattle.rules.specs.Allowed.{Distinct}
-use Rattle.rules.specs.Cache.{Cache, withRows, touch}
+use Rattle.rules.specs.Cache.{Cache, withRows, amendAt, touch}
 use Rattle.rules.specs.Entries.{if_then_else_, isListed, cleaned}
-use Rattle.rules.specs.Rows.{get, passes, amend}
+use Rattle.rules.specs.Rows.{get, passes, amend, isHere}
 use Rattle.rules.proofs.Fit.{fit-amend, clean-allowed}
-use Rattle.rules.proofs.Found.{length-amend}
+use Rattle.rules.proofs.Found.{present, length-amend}
 use Rattle.rules.proofs.Moves as moves
-use Rattle.rules.proofs.Moves.{SameList, sound-write}
+use Rattle.rules.proofs.Moves.{SameList, same-list, sound-write}
 use Rattle.layout.specs.Holds.{Holds}
-use Rattle.layout.specs.Layout.{recencyAt}
+use Rattle.layout.specs.Layout.{rowAt, recencyAt}
 use Rattle.layout.specs.Leaves.{putRow, runCut}
 use Rattle.layout.specs.Picture.{rowNumber, encode}
 use Rattle.layout.proofs.Cuts.{cut, cut-strike}
-use Rattle.layout.proofs.Encoded.{amend-encode, off-encode, on-encode}
+use Rattle.layout.proofs.Encoded.{amend-encode, word-encode, off-encode, on-encode}
 use Rattle.layout.proofs.Held.{holds}
 use Rattle.layout.proofs.Numbers.{stands}
 use Rattle.layout.proofs.Rows.{amend-row, number-amend}
@@ -62,6 +62,20 @@ tail-cut (a ∷ l) t h = cut-strike 0 (a ∷ l) t h
 tail-same : (l : List ℕ) → 0 < length l → SameList (drop 1 l ++ getD l 0 0 ∷ []) l
 tail-same [] h = absurd (omega arith)
 tail-same (a ∷ l) h = moves.turned a l
+
+-- the mark in an entry's row written
+pub clean-holds : {ws : List ℕ} {c : Cache} {rest : List ℕ} (a : ℕ) → Holds ws c rest → isHere (c .rows) a ≡ true
+    → Holds (set ws (rowAt (rowNumber (c .rows) a) + 2) 0) (amendAt a cleaned c) rest
+clean-holds {ws} {c} {rest} a h here =
+    let p = present (λ e. true) (get (c .rows) a) here in
+    let s = stands (c .rows) a (p .0) (p .1) in
+    holds
+    (ap (λ (x : List ℕ). set x (rowAt (rowNumber (c .rows) a) + 2) 0) (h .words)
+    ∙ word-encode c rest (rowNumber (c .rows) a) 2 0 cleaned (λ x. refl) (p .0) (h .steady .sound .distinct) (s .low) (omega arith) (s .row) refl
+    ∙ ap (λ (x : ℕ). encode (amendAt x cleaned c) rest) (s .address))
+    (steady-with c (amend a cleaned (c .rows)) (c .recency) (h .steady) (length-amend a cleaned (c .rows))
+    (fit-amend a cleaned (λ x. refl) (c .rows) (λ x k. clean-allowed x) (fit-of c (h .steady)))
+    (sound-write a (c .recency) c (same-list (c .recency)) (h .steady .sound)))
 
 module _ {ws : List ℕ} {c : Cache} {rest : List ℕ} (h : Holds ws c rest) (some-listed : 0 < length (c .recency)) where
   pub turn-holds : (e : Entry) (n : ℕ) → get (c .rows) (getD (c .recency) 0 0) ≡ some e → n ≡ length (c .recency)

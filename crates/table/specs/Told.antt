@@ -10,7 +10,7 @@ use Rattle.rules.specs.declared.entry.Entry.{Entry}
 use Rattle.rules.specs.declared.entry.Row.{Row}
 use Rattle.rules.specs.declared.order.Kind.{Kind}
 use Rattle.rules.specs.Addresses.{strike}
-use Rattle.rules.specs.Cache.{Cache, withRows}
+use Rattle.rules.specs.Cache.{Cache, withRows, amendAt}
 use Rattle.rules.specs.Entries.{if_then_else_, isListed, cleaned}
 use Rattle.rules.specs.Limits.{mostIdle}
 use Rattle.rules.specs.Resizing.{older}
@@ -88,6 +88,11 @@ listedAt ws pos = getD (cacheIn ws .recency) pos 0
 pub record Drops (a : ℕ) (ws vs : List ℕ) (answer : Entry) : Type 0 where
   pub holds : Holds vs (dropped a (cacheIn ws)) (restIn ws)
   pub entry : get (cacheIn ws .rows) a ≡ some answer
+
+-- From words ws to words vs: the entry at a is clean, and its size is the answer.
+pub record Cleans (a : ℕ) (ws vs : List ℕ) (answer : ℕ) : Type 0 where
+  pub holds : Holds vs (amendAt a cleaned (cacheIn ws)) (restIn ws)
+  pub size : answer ≡ sizeAt (cacheIn ws .rows) a
 
 -- From words ws to words vs: the cache is changed, and the order with number `given` names the entry at a, whose size is
 -- the answer.

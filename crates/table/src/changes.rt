@@ -11,8 +11,9 @@ ghost use Rattle.layout.specs.Leaves.{runCut};
 ghost use Rattle.layout.specs.Picture.{addresses, cacheIn, restIn};
 ghost use Rattle.layout.specs.Holds.{Holds};
 ghost use Rattle.table.specs.Asked.{GoodRows, RowOf, DropAt, Addable};
-ghost use Rattle.table.specs.Told.{dropped, added, become, Placed};
+ghost use Rattle.table.specs.Told.{dropped, added, become, Placed, Cleans};
 use crate::listing::list_on;
+use crate::lookup::entry_of;
 use crate::lookup::place_among;
 use crate::runs::listed_len;
 use crate::runs::used_len;
@@ -20,6 +21,7 @@ use crate::search::free_row;
 use entries::is_listed;
 use layout::HEADER;
 use layout::WIDTH;
+use layout::row::clear_dirty;
 use layout::row::clear_row;
 use layout::row::put_entry;
 use layout::run::run_cut;
@@ -32,6 +34,16 @@ pub fn set_entry(table: &mut [u64], rows: usize, row: usize, e: Entry)
     ensures { λ _. ⌜ Holds (now (table .exit)) (amendAt (e .address) (become e) (cacheIn (now (table .entry)))) (restIn (now (table .entry))) ⌝ }
 {
     put_entry(table, row, e);
+}
+
+// The entry at an address, whose row is given, is clean where it stands; the answer is its size.
+pub fn clean_row(table: &mut [u64], rows: usize, row: usize, address: u64) -> u64
+    requires { ⌜ GoodRows (now table) rows × RowOf (cacheIn (now table) .rows) address row ⌝ }
+    ensures { λ r. ⌜ Cleans address (now (table .entry)) (now (table .exit)) r ⌝ }
+{
+    let e = entry_of(table, rows, row, address);
+    clear_dirty(table, row);
+    e.size
 }
 
 // Takes a word out of the recency run and one out of the address run; the words past their lengths are not touched.

@@ -2,7 +2,7 @@
 ghost use mathlib.Core.Path.{_≡_};
 ghost use mathlib.Core.Bool.{true};
 ghost use mathlib.Core.Option.{some};
-ghost use Prim.Native.Nat.{_<_};
+ghost use Prim.Native.Nat.{_<_, _≤_};
 ghost use lib.ListN.{length, getD};
 ghost use Rattle.rules.specs.Addresses.{elem};
 ghost use Rattle.rules.specs.Rows.{get, dirtyAt};
@@ -47,19 +47,42 @@ pub fn key_at(table: &[u64], rows: usize, place: usize) -> u64
     table[HEADER + row * WIDTH]
 }
 
-// How many of the n addresses are below this one.
-pub fn place_of(table: &[u64], rows: usize, n: usize, address: u64) -> usize
+// Where a search between low and high that began at `near` looks next. Any place between them serves; from `near` on the steps
+// double, and then what is left is halved.
+fn next_look(low: usize, high: usize, near: usize) -> usize
+    requires { ⌜ low < high ⌝ }
+    ensures { λ r. ⌜ (low ≤ r) × (r < high) ⌝ }
+{
+    if low <= near {
+        if near < high {
+            return near;
+        }
+    } else {
+        let step = low - near - 1;
+        if step < high - low {
+            return low + step;
+        }
+    }
+    low + (high - low) / 2
+}
+
+// How many of the n addresses are below this one; `near` is the place to look at first.
+pub fn place_of(table: &[u64], rows: usize, n: usize, near: usize, address: u64) -> usize
     requires { ⌜ GoodRows (now table) rows × (n ≡ length (addresses (cacheIn (now table) .rows))) ⌝ }
     ensures { λ r. ⌜ r ≡ placeOf address (addresses (cacheIn (now (table .entry)) .rows)) ⌝ }
 {
     let mut low: usize = 0;
     let mut high = n;
     while low < high {
-        let mid = low + (high - low) / 2;
-        if key_at(table, rows, mid) < address {
-            low = mid + 1;
+        let at = next_look(low, high, near);
+        let key = key_at(table, rows, at);
+        if key == address {
+            return at;
+        }
+        if key < address {
+            low = at + 1;
         } else {
-            high = mid;
+            high = at;
         }
     }
     low
@@ -71,15 +94,15 @@ pub fn place_among(table: &[u64], rows: usize, address: u64) -> usize
     ensures { λ r. ⌜ r ≡ placeOf address (addresses (cacheIn (now (table .entry)) .rows)) ⌝ }
 {
     let n = used_len(table, rows);
-    place_of(table, rows, n, address)
+    place_of(table, rows, n, n, address)
 }
 
-pub fn find(table: &[u64], rows: usize, address: u64) -> Found
-    requires { ⌜ GoodRows (now table) rows ⌝ }
+// Where an address stands among the n, looked for first at the place `near`.
+pub fn find_near(table: &[u64], rows: usize, n: usize, near: usize, address: u64) -> Found
+    requires { ⌜ GoodRows (now table) rows × (n ≡ length (addresses (cacheIn (now table) .rows))) ⌝ }
     ensures { λ r. ⌜ r ≡ foundIn (cacheIn (now (table .entry)) .rows) address ⌝ }
 {
-    let n = used_len(table, rows);
-    let place = place_of(table, rows, n, address);
+    let place = place_of(table, rows, n, near, address);
     if place < n {
         if key_at(table, rows, place) == address {
             let row = address_row(table, rows, place);
@@ -87,6 +110,15 @@ pub fn find(table: &[u64], rows: usize, address: u64) -> Found
         }
     }
     Found::Nothing
+}
+
+// Where an address stands.
+pub fn find(table: &[u64], rows: usize, address: u64) -> Found
+    requires { ⌜ GoodRows (now table) rows ⌝ }
+    ensures { λ r. ⌜ r ≡ foundIn (cacheIn (now (table .entry)) .rows) address ⌝ }
+{
+    let n = used_len(table, rows);
+    find_near(table, rows, n, n, address)
 }
 
 // The entry at an address that is there, whose row is given.

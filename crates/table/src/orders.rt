@@ -11,9 +11,8 @@ ghost use Rattle.layout.specs.Picture.{cacheIn, restIn};
 ghost use Rattle.layout.specs.Holds.{Holds};
 ghost use Rattle.table.specs.Asked.{GoodRows, RowOf};
 ghost use Rattle.table.specs.Told.{dropped, turned, listedAt, Drops, Gives};
+use crate::changes::clean_row;
 use crate::changes::drop_entry;
-use crate::changes::set_entry;
-use crate::lookup::entry_of;
 use crate::lookup::place_among;
 use crate::lookup::recency_row;
 use crate::runs::listed_len;
@@ -70,19 +69,17 @@ pub fn write_row(
     requires { ⌜ GoodRows (now table) rows × RowOf (cacheIn (now table) .rows) address row × (given * 3 + 3 ≤ length (now orders)) ⌝ }
     ensures { λ r. ⌜ Gives Write address (amendAt address cleanedEntry) (now (table .entry)) (now (table .exit)) given (now (orders .entry)) (now (orders .exit)) r ⌝ }
 {
-    let e = entry_of(table, rows, row, address);
-    let clean = cleaned(e);
-    set_entry(table, rows, row, clean);
+    let size = clean_row(table, rows, row, address);
     order_put(
         orders,
         given,
         Order {
             kind: Kind::Write,
             address,
-            size: e.size,
+            size,
         },
     );
-    e.size
+    size
 }
 
 // The entry at a place of the recency list is written and keeps its place.

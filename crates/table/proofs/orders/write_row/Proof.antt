@@ -1,25 +1,10 @@
--- The entry is set clean in its row, and the order names it.
-use mathlib.Core.Path.{refl}
+-- The entry is clean in its row, and the order names it.
 use borrow.Author.Needs.{needs}
-use Rattle.rules.specs.Entries.{cleaned}
-use Rattle.rules.proofs.Fit.{clean-allowed}
-use Rattle.table.proofs.Told.{told-size, told-address}
-use Rattle.table.proofs.Turned.{become-as}
 use Rattle.table.proofs.orders.write_row.Statement.{statement}
 use Rattle.table.proofs.orders.write_row.Tie as tie
 
-entry-of-requires : tie.Need-entry-of-requires
-entry-of-requires c κs = search needs
-
-cleaned-requires : tie.Need-cleaned-requires
-cleaned-requires c κs = search needs
-
-set-entry-requires : tie.Need-set-entry-requires
-set-entry-requires c κs =
-    let p = c .before .before .before .before .before .before .pre in
-    let r = c .before .before .entry-of .ensures in
-    let q = told-address _ _ _ r in
-    rw (c .before .cleaned .ensures) (p .0, rw q (p .1), clean-allowed _ (p .0 .good .steady .entries _ _ r), rw (q, r) refl)
+clean-row-requires : tie.Need-clean-row-requires
+clean-row-requires c κs = search needs
 
 order-put-requires : tie.Need-order-put-requires
 order-put-requires c κs = search needs
@@ -32,23 +17,9 @@ same-length-2 c = search needs
 
 returns : tie.Need-returns
 returns c =
-    let p = c .before .before .before .before .before .before .before .before .before .before .before .before .before .pre in
-    let r = c .before .before .before .before .before .before .before .before .before .entry-of .ensures in
-    let z = told-size _ _ _ r in
-    record {
-      holds = rw (c .before .before .before .before .before .before .before .before .cleaned .ensures, told-address _ _ _ r, become-as cleaned (λ x. refl) _ _ _ (p .0 .good .steady .sound .distinct) r) at (c .before .before .before .before .before .before .set-entry .ensures);
-      size = z;
-      orders = rw z at (c .before .before .order-put .ensures);
-    }
+    let cleans = c .before .before .before .before .before .before .clean-row .ensures in
+    record { holds = cleans .holds; size = cleans .size; orders = rw (cleans .size) at (c .before .before .order-put .ensures) }
 
 pub write-row-spec : {M : Type 1} → statement M
 write-row-spec =
-    tie.close
-    (tie.spec
-    entry-of-requires
-    cleaned-requires
-    set-entry-requires
-    order-put-requires
-    same-length
-    same-length-2
-    returns)
+    tie.close (tie.spec clean-row-requires order-put-requires same-length same-length-2 returns)
