@@ -49,7 +49,12 @@ fn time<T, R>(mut prepare: impl FnMut() -> T, mut run: impl FnMut(T) -> R) -> f6
 
 // ---- what is timed
 
-/// A cache with every row used: addresses 0, 2, 4 and so on, the lowest at the tail.
+/// The address in a row, even and below twice the rows; neighbours stand in rows far apart.
+fn address_in(row: usize, rows: usize) -> u64 {
+    2 * (row * 1_237 % rows) as u64
+}
+
+/// A cache with every row used, the first row's entry at the tail.
 fn full_cache(rows: usize, mode: Mode, dirty: bool) -> Model {
     let settings = Settings {
         initial_size: rows as u64 * SIZE,
@@ -61,8 +66,8 @@ fn full_cache(rows: usize, mode: Mode, dirty: bool) -> Model {
     let mut m = model::open(rows as u64, true, Some(mode), 262_144, settings).unwrap();
     for row in 0..rows {
         let entry = Entry { size: SIZE, dirty, idle: 3, pinned: false, hold: Hold::Free, row };
-        m.entries.insert(2 * row as u64, entry);
-        m.recency.push_front(2 * row as u64);
+        m.entries.insert(address_in(row, rows), entry);
+        m.recency.push_front(address_in(row, rows));
     }
     m
 }
@@ -99,6 +104,7 @@ fn cases(rows: usize) -> Vec<Case> {
     let mid = middle(rows);
     let clean = full_cache(rows, Mode::Alone, false);
     let dirty = full_cache(rows, Mode::Alone, true);
+    let follower = full_cache(rows, Mode::Standby, true);
     let held = with_middle(clean.clone(), Hold::Readers(1), false);
     let pinned = with_middle(clean.clone(), Hold::Free, true);
     let mut aging = clean.clone();
@@ -132,8 +138,12 @@ fn cases(rows: usize) -> Vec<Case> {
         case("flush, all rows dirty", &dirty, vec![ask(FLUSH, 0, 0)], vec![n]),
         case("sync, writes half of the rows", &full_cache(rows, Mode::Lead, true), vec![ask(SYNC, 0, 0)], vec![n / 2]),
         Case {
-            list: (0..n).map(|row| 2 * row).collect(),
-            ..case("take, all rows", &full_cache(rows, Mode::Standby, true), vec![ask(TAKE, 0, 0)], vec![0])
+            list: (0..n).map(|place| 2 * place).collect(),
+            ..case("take, all rows, as a flush lists them", &follower, vec![ask(TAKE, 0, 0)], vec![0])
+        },
+        Case {
+            list: (0..rows).map(|row| address_in(row, rows)).collect(),
+            ..case("take, all rows, addresses in no order", &follower, vec![ask(TAKE, 0, 0)], vec![0])
         },
         case("configure", &clean, vec![configure], vec![0]),
         case("epoch's end, all but one age out", &aging, vec![ask(PROTECT_FOR_READING, mid, SIZE)], vec![n - 1]),
@@ -259,7 +269,8 @@ fn main() {
     for (name, cells) in &lines {
         line(name, cells);
     }
-    println!("\nAbove twice judging and 1.5 microseconds for each order: {}.", above.join("; "));
+    let above = if above.is_empty() { "none".to_string() } else { above.join("; ") };
+    println!("\nAbove twice judging and 1.5 microseconds for each order: {above}.");
     println!();
     for rows in ROW_COUNTS {
         let (table, orders) = (table_words(rows), order_words(rows));
