@@ -16,11 +16,10 @@ ghost use Rattle.room.specs.Answered.{Answered};
 ghost use Rattle.insert.specs.Inserted.{insertedIn};
 use admission::admit;
 use admission::no_row;
-use entries::bad_address;
-use entries::bad_size;
+use entries::Verdict;
 use entries::count_with;
+use entries::first_tests;
 use entries::new_entry;
-use entries::too_few_words;
 use rules::answer::Answer;
 use rules::answer::Refusal;
 use rules::entry::Hold;
@@ -58,14 +57,9 @@ pub fn insert(table: &mut [u64], orders: &mut [u64], address: u64, size: u64) ->
     ensures { λ r. ⌜ Answered (step (cacheIn (now (table .entry))) (asking (Insert address size) [] (length (now (orders .entry))))) (restIn (now (table .entry))) (now (table .exit)) (now (orders .entry)) (now (orders .exit)) r ⌝ }
 {
     let rows = row_count(table);
-    if too_few_words(rows, orders.len()) {
-        return Answer::Refused(Refusal::OrderWords);
-    }
-    if bad_address(address) {
-        return Answer::Refused(Refusal::Address);
-    }
-    if bad_size(size) {
-        return Answer::Refused(Refusal::Size);
+    let verdict = first_tests(rows, orders.len(), address, size);
+    if let Verdict::Refused(refusal) = verdict {
+        return Answer::Refused(refusal);
     }
     let found = find(table, rows, address);
     match found {

@@ -12,12 +12,14 @@ use Rattle.rules.specs.Refusals.{Call, badAddress, badSize, noRow, entryTest, t
 use Rattle.rules.specs.Requests.{hit, missed, effect, step}
 use Rattle.rules.specs.Rows.{get, passes, isHere}
 use Rattle.rules.specs.declared.answer.Answer.the-variants.{Accepted, Refused}
+use Rattle.rules.specs.declared.answer.Refusal.{Refusal}
 use Rattle.rules.specs.declared.answer.Refusal.the-variants as refusal
 use Rattle.rules.specs.declared.entry.Entry.{Entry}
 use Rattle.rules.specs.declared.request.Access.{Access}
 use Rattle.rules.specs.declared.request.Request.the-variants.{Protect}
+use Rattle.entries.specs.FirstTests.{firstTests}
 use Rattle.layout.specs.Holds.{Holds}
-use Rattle.room.proofs.Outcomes.{first, next, last, answered-not, answered-done}
+use Rattle.room.proofs.Outcomes.{first, next, last, begun, later, answered-not, answered-done}
 use Rattle.room.specs.Answered.{Answered}
 use Rattle.room.specs.Did.{Did}
 
@@ -25,55 +27,46 @@ abbrev protecting : Access → ℕ → ℕ → List ℕ → Call
 protecting x a s lent = asking (Protect x a s) [] (length lent)
 
 module _ (x : Access) (a s : ℕ) (lent : List ℕ) {ws : List ℕ} {c : Cache} {rest : List ℕ} (h : Holds ws c rest) where
-  pub protect-words : tooFewWords c (length lent) ≡ true → Answered (step c (protecting x a s lent)) rest ws lent lent (Refused refusal.OrderWords)
+  -- one of the first tests passes: the words, the address or the size
+  pub protect-first : (r : Refusal) → firstOf (firstTests (length (c .rows)) (length lent) a s) ≡ some r → Answered (step c (protecting x a s lent)) rest ws lent lent (Refused r)
   unfolding refusalOf tests
-  protect-words t = answered-not (protecting x a s lent) lent refusal.OrderWords h (first _ _ _ t)
+  protect-first r e = answered-not (protecting x a s lent) lent r h (begun (firstTests (length (c .rows)) (length lent) a s) _ r e)
 
-  module _ (t : tooFewWords c (length lent) ≡ false) where
-    pub protect-address : badAddress a ≡ true → Answered (step c (protecting x a s lent)) rest ws lent lent (Refused refusal.Address)
+  module _ (t : tooFewWords c (length lent) ≡ false) (b : badAddress a ≡ false) (z : badSize s ≡ false) where
+    -- the tests that are left
+    then-tested : refusalOf c (protecting x a s lent)
+        ≡ firstOf ((entryTest c a (λ e. forbids (e .hold) x), refusal.Held) ∷ (not (isHere (c .rows) a) && noRow c, refusal.Full) ∷ [])
     unfolding refusalOf tests
-    protect-address b = answered-not (protecting x a s lent) lent refusal.Address h (next _ _ _ t ∙ first _ _ _ b)
+    then-tested = later (length (c .rows)) (length lent) a s _ t b z
 
-    module _ (b : badAddress a ≡ false) where
-      pub protect-size : badSize s ≡ true → Answered (step c (protecting x a s lent)) rest ws lent lent (Refused refusal.Size)
-      unfolding refusalOf tests
-      protect-size z = answered-not (protecting x a s lent) lent refusal.Size h (next _ _ _ t ∙ next _ _ _ b ∙ first _ _ _ z)
+    -- an entry that is there
+    module _ (e : Entry) (g : get (c .rows) a ≡ some e) where
+      held-test : entryTest c a (λ e. forbids (e .hold) x) ≡ forbids (e .hold) x
+      held-test = ap (passes (λ e. forbids (e .hold) x)) g
 
-      module _ (z : badSize s ≡ false) where
-        -- the tests that are left
-        then-tested : refusalOf c (protecting x a s lent)
-            ≡ firstOf ((entryTest c a (λ e. forbids (e .hold) x), refusal.Held) ∷ (not (isHere (c .rows) a) && noRow c, refusal.Full) ∷ [])
-        unfolding refusalOf tests
-        then-tested = next _ _ _ t ∙ next _ _ _ b ∙ next _ _ _ z
+      pub protect-held : forbids (e .hold) x ≡ true → Answered (step c (protecting x a s lent)) rest ws lent lent (Refused refusal.Held)
+      protect-held f = answered-not (protecting x a s lent) lent refusal.Held h (then-tested ∙ first _ _ _ (held-test ∙ f))
 
-        -- an entry that is there
-        module _ (e : Entry) (g : get (c .rows) a ≡ some e) where
-          held-test : entryTest c a (λ e. forbids (e .hold) x) ≡ forbids (e .hold) x
-          held-test = ap (passes (λ e. forbids (e .hold) x)) g
+      pub protect-hit : {out words : List ℕ} {given : ℕ} → forbids (e .hold) x ≡ false → Did (hit x a c) rest out 0 lent words given
+          → Answered (step c (protecting x a s lent)) rest out lent words (Accepted given)
+      unfolding effect
+      protect-hit {out} {words} {given} f d =
+          answered-done c (protecting x a s lent) (then-tested ∙ next _ _ _ (held-test ∙ f) ∙ next _ _ _ (rw g) ∙ last)
+          (subst (λ (t : Bool). Did (if t then hit x a c else missed x a s c) rest out 0 lent words given) (sym (ap (passes (λ e. true)) g)) d)
 
-          pub protect-held : forbids (e .hold) x ≡ true → Answered (step c (protecting x a s lent)) rest ws lent lent (Refused refusal.Held)
-          protect-held f = answered-not (protecting x a s lent) lent refusal.Held h (then-tested ∙ first _ _ _ (held-test ∙ f))
+    -- an address that is not in the cache
+    module _ (n : get (c .rows) a ≡ none) where
+      no-hold : entryTest c a (λ e. forbids (e .hold) x) ≡ false
+      no-hold = ap (passes (λ e. forbids (e .hold) x)) n
 
-          pub protect-hit : {out words : List ℕ} {given : ℕ} → forbids (e .hold) x ≡ false → Did (hit x a c) rest out 0 lent words given
-              → Answered (step c (protecting x a s lent)) rest out lent words (Accepted given)
-          unfolding effect
-          protect-hit {out} {words} {given} f d =
-              answered-done c (protecting x a s lent) (then-tested ∙ next _ _ _ (held-test ∙ f) ∙ next _ _ _ (rw g) ∙ last)
-              (subst (λ (t : Bool). Did (if t then hit x a c else missed x a s c) rest out 0 lent words given) (sym (ap (passes (λ e. true)) g)) d)
+      row-test : not (isHere (c .rows) a) && noRow c ≡ noRow c
+      row-test = rw n
 
-        -- an address that is not in the cache
-        module _ (n : get (c .rows) a ≡ none) where
-          no-hold : entryTest c a (λ e. forbids (e .hold) x) ≡ false
-          no-hold = ap (passes (λ e. forbids (e .hold) x)) n
+      pub protect-full : noRow c ≡ true → Answered (step c (protecting x a s lent)) rest ws lent lent (Refused refusal.Full)
+      protect-full f = answered-not (protecting x a s lent) lent refusal.Full h (then-tested ∙ next _ _ _ no-hold ∙ first _ _ _ (row-test ∙ f))
 
-          row-test : not (isHere (c .rows) a) && noRow c ≡ noRow c
-          row-test = rw n
-
-          pub protect-full : noRow c ≡ true → Answered (step c (protecting x a s lent)) rest ws lent lent (Refused refusal.Full)
-          protect-full f = answered-not (protecting x a s lent) lent refusal.Full h (then-tested ∙ next _ _ _ no-hold ∙ first _ _ _ (row-test ∙ f))
-
-          pub protect-missed : {out words : List ℕ} {given : ℕ} → noRow c ≡ false → Did (missed x a s c) rest out 0 lent words given
-              → Answered (step c (protecting x a s lent)) rest out lent words (Accepted given)
-          unfolding effect
-          protect-missed f d =
-              answered-done c (protecting x a s lent) (then-tested ∙ next _ _ _ no-hold ∙ next _ _ _ (row-test ∙ f) ∙ last) (rw n d)
+      pub protect-missed : {out words : List ℕ} {given : ℕ} → noRow c ≡ false → Did (missed x a s c) rest out 0 lent words given
+          → Answered (step c (protecting x a s lent)) rest out lent words (Accepted given)
+      unfolding effect
+      protect-missed f d =
+          answered-done c (protecting x a s lent) (then-tested ∙ next _ _ _ no-hold ∙ next _ _ _ (row-test ∙ f) ∙ last) (rw n d)

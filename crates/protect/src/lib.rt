@@ -19,13 +19,12 @@ ghost use Rattle.room.specs.Did.{Did};
 ghost use Rattle.table.specs.Asked.{GoodRows, RowOf};
 use admission::admit;
 use admission::no_row;
-use entries::bad_address;
-use entries::bad_size;
+use entries::Verdict;
+use entries::first_tests;
 use entries::forbids;
 use entries::joined;
 use entries::new_entry;
 use entries::protected_for;
-use entries::too_few_words;
 use epoch::count_access;
 use layout::order::order_put;
 use rules::answer::Answer;
@@ -119,14 +118,9 @@ pub fn protect(
     ensures { λ r. ⌜ Answered (step (cacheIn (now (table .entry))) (asking (Protect access address size) [] (length (now (orders .entry))))) (restIn (now (table .entry))) (now (table .exit)) (now (orders .entry)) (now (orders .exit)) r ⌝ }
 {
     let rows = row_count(table);
-    if too_few_words(rows, orders.len()) {
-        return Answer::Refused(Refusal::OrderWords);
-    }
-    if bad_address(address) {
-        return Answer::Refused(Refusal::Address);
-    }
-    if bad_size(size) {
-        return Answer::Refused(Refusal::Size);
+    let verdict = first_tests(rows, orders.len(), address, size);
+    if let Verdict::Refused(refusal) = verdict {
+        return Answer::Refused(refusal);
     }
     let found = find(table, rows, address);
     match found {

@@ -1,22 +1,24 @@
 -- What the two releases answer: the first of their tests that passes, and else their effect.
 use Prim.Native.Nat.{ℕ}
 use mathlib.Core.Bool.{Bool, true, false, not}
-use mathlib.Core.List.{List, []}
+use mathlib.Core.List.{List, [], _∷_}
 use mathlib.Core.Option.{Option, none, some}
 use mathlib.Core.Path.{_≡_, refl, ap, _∙_}
 use lib.ListN.{length}
 use Rattle.rules.specs.Cache.{Cache, touch}
 use Rattle.rules.specs.Entries.{isHeld, isRead, released}
 use Rattle.rules.specs.Hosts.{asking}
-use Rattle.rules.specs.Refusals.{tooFewWords, badAddress, badSize, tests, refusalOf}
+use Rattle.rules.specs.Refusals.{tooFewWords, badAddress, badSize, entryTest, firstOf, tests, refusalOf}
 use Rattle.rules.specs.Requests.{named, roomIfReleased, effect, step}
 use Rattle.rules.specs.Rows.{get, passes, isHere}
 use Rattle.rules.specs.declared.answer.Answer.the-variants.{Accepted, Refused}
+use Rattle.rules.specs.declared.answer.Refusal.{Refusal}
 use Rattle.rules.specs.declared.answer.Refusal.the-variants as refusal
 use Rattle.rules.specs.declared.entry.Entry.{Entry}
 use Rattle.rules.specs.declared.request.Request.the-variants.{Release, ReleaseChanged}
+use Rattle.entries.specs.FirstTests.{firstTests}
 use Rattle.layout.specs.Holds.{Holds}
-use Rattle.room.proofs.Outcomes.{first, next, last, answered-not, answered-done}
+use Rattle.room.proofs.Outcomes.{first, next, last, begun, later, answered-not, answered-done}
 use Rattle.room.specs.Answered.{Answered}
 use Rattle.room.specs.Did.{Did}
 use Rattle.release.proofs.Released.{changedReleased}
@@ -64,48 +66,41 @@ module _ {ws : List ℕ} {c : Cache} {rest : List ℕ} (a : ℕ) (lent : List �
 -- ---- release changed
 
 module _ {ws : List ℕ} {c : Cache} {rest : List ℕ} (a s : ℕ) (lent : List ℕ) (h : Holds ws c rest) where
-  pub changed-words : tooFewWords c (length lent) ≡ true → Answered (step c (asking (ReleaseChanged a s) [] (length lent))) rest ws lent lent (Refused refusal.OrderWords)
+  -- one of the first tests passes: the words, the address or the size
+  pub changed-first : (r : Refusal) → firstOf (firstTests (length (c .rows)) (length lent) a s) ≡ some r → Answered (step c (asking (ReleaseChanged a s) [] (length lent))) rest ws lent lent (Refused r)
   unfolding refusalOf tests
-  changed-words t = answered-not (asking (ReleaseChanged a s) [] (length lent)) lent refusal.OrderWords h (first _ _ _ t)
+  changed-first r e = answered-not (asking (ReleaseChanged a s) [] (length lent)) lent r h (begun (firstTests (length (c .rows)) (length lent) a s) _ r e)
 
-  module _ (t : tooFewWords c (length lent) ≡ false) where
-    pub changed-address : badAddress a ≡ true → Answered (step c (asking (ReleaseChanged a s) [] (length lent))) rest ws lent lent (Refused refusal.Address)
+  module _ (t : tooFewWords c (length lent) ≡ false) (b : badAddress a ≡ false) (z : badSize s ≡ false) where
+    -- the tests that are left
+    then-tested : refusalOf c (asking (ReleaseChanged a s) [] (length lent))
+        ≡ firstOf ((not (isHere (c .rows) a), refusal.Absent) ∷ (entryTest c a (λ y. isRead (y .hold)), refusal.Held) ∷ (entryTest c a (λ y. not (isHeld (y .hold))), refusal.Unheld) ∷ [])
     unfolding refusalOf tests
-    changed-address b = answered-not (asking (ReleaseChanged a s) [] (length lent)) lent refusal.Address h (next _ _ _ t ∙ first _ _ _ b)
+    then-tested = later (length (c .rows)) (length lent) a s _ t b z
 
-    module _ (b : badAddress a ≡ false) where
-      pub changed-size : badSize s ≡ true → Answered (step c (asking (ReleaseChanged a s) [] (length lent))) rest ws lent lent (Refused refusal.Size)
-      unfolding refusalOf tests
-      changed-size z = answered-not (asking (ReleaseChanged a s) [] (length lent)) lent refusal.Size h (next _ _ _ t ∙ next _ _ _ b ∙ first _ _ _ z)
+    pub changed-absent : isHere (c .rows) a ≡ false → Answered (step c (asking (ReleaseChanged a s) [] (length lent))) rest ws lent lent (Refused refusal.Absent)
+    changed-absent n =
+        answered-not (asking (ReleaseChanged a s) [] (length lent)) lent refusal.Absent h (then-tested ∙ first _ _ _ (ap not n))
 
-      module _ (z : badSize s ≡ false) where
-        pub changed-absent : isHere (c .rows) a ≡ false → Answered (step c (asking (ReleaseChanged a s) [] (length lent))) rest ws lent lent (Refused refusal.Absent)
-        unfolding refusalOf tests
-        changed-absent n =
-            answered-not (asking (ReleaseChanged a s) [] (length lent)) lent refusal.Absent h (next _ _ _ t ∙ next _ _ _ b ∙ next _ _ _ z ∙ first _ _ _ (ap not n))
+    module _ {e : Entry} (g : get (c .rows) a ≡ some e) where
+      pub changed-read : isRead (e .hold) ≡ true → Answered (step c (asking (ReleaseChanged a s) [] (length lent))) rest ws lent lent (Refused refusal.Held)
+      changed-read u =
+          answered-not (asking (ReleaseChanged a s) [] (length lent)) lent refusal.Held h
+          (then-tested ∙ next _ _ _ (here-told g) ∙ first _ _ _ (entry-told (λ y. isRead (y .hold)) g u))
 
-        module _ {e : Entry} (g : get (c .rows) a ≡ some e) where
-          pub changed-read : isRead (e .hold) ≡ true → Answered (step c (asking (ReleaseChanged a s) [] (length lent))) rest ws lent lent (Refused refusal.Held)
-          unfolding refusalOf tests
-          changed-read u =
-              answered-not (asking (ReleaseChanged a s) [] (length lent)) lent refusal.Held h
-              (next _ _ _ t ∙ next _ _ _ b ∙ next _ _ _ z ∙ next _ _ _ (here-told g) ∙ first _ _ _ (entry-told (λ y. isRead (y .hold)) g u))
+      module _ (u : isRead (e .hold) ≡ false) where
+        pub changed-unheld : isHeld (e .hold) ≡ false → Answered (step c (asking (ReleaseChanged a s) [] (length lent))) rest ws lent lent (Refused refusal.Unheld)
+        changed-unheld v =
+            answered-not (asking (ReleaseChanged a s) [] (length lent)) lent refusal.Unheld h
+            (then-tested ∙ next _ _ _ (here-told g) ∙ next _ _ _ (entry-told (λ y. isRead (y .hold)) g u)
+            ∙ first _ _ _ (entry-told (λ y. not (isHeld (y .hold))) g (ap not v)))
 
-          module _ (u : isRead (e .hold) ≡ false) where
-            pub changed-unheld : isHeld (e .hold) ≡ false → Answered (step c (asking (ReleaseChanged a s) [] (length lent))) rest ws lent lent (Refused refusal.Unheld)
-            unfolding refusalOf tests
-            changed-unheld v =
-                answered-not (asking (ReleaseChanged a s) [] (length lent)) lent refusal.Unheld h
-                (next _ _ _ t ∙ next _ _ _ b ∙ next _ _ _ z ∙ next _ _ _ (here-told g) ∙ next _ _ _ (entry-told (λ y. isRead (y .hold)) g u)
-                ∙ first _ _ _ (entry-told (λ y. not (isHeld (y .hold))) g (ap not v)))
+        changed-accepted : isHeld (e .hold) ≡ true → refusalOf c (asking (ReleaseChanged a s) [] (length lent)) ≡ none
+        changed-accepted v =
+            then-tested ∙ next _ _ _ (here-told g) ∙ next _ _ _ (entry-told (λ y. isRead (y .hold)) g u)
+            ∙ next _ _ _ (entry-told (λ y. not (isHeld (y .hold))) g (ap not v)) ∙ last
 
-            changed-accepted : isHeld (e .hold) ≡ true → refusalOf c (asking (ReleaseChanged a s) [] (length lent)) ≡ none
-            unfolding refusalOf tests
-            changed-accepted v =
-                next _ _ _ t ∙ next _ _ _ b ∙ next _ _ _ z ∙ next _ _ _ (here-told g) ∙ next _ _ _ (entry-told (λ y. isRead (y .hold)) g u)
-                ∙ next _ _ _ (entry-told (λ y. not (isHeld (y .hold))) g (ap not v)) ∙ last
-
-            pub changed-done : {out words : List ℕ} {given : ℕ} → isHeld (e .hold) ≡ true → Did (roomIfReleased a (touch a (changedReleased s) (named a s c))) rest out 0 lent words given
-                → Answered (step c (asking (ReleaseChanged a s) [] (length lent))) rest out lent words (Accepted given)
-            unfolding effect
-            changed-done v d = answered-done c (asking (ReleaseChanged a s) [] (length lent)) (changed-accepted v) d
+        pub changed-done : {out words : List ℕ} {given : ℕ} → isHeld (e .hold) ≡ true → Did (roomIfReleased a (touch a (changedReleased s) (named a s c))) rest out 0 lent words given
+            → Answered (step c (asking (ReleaseChanged a s) [] (length lent))) rest out lent words (Accepted given)
+        unfolding effect
+        changed-done v d = answered-done c (asking (ReleaseChanged a s) [] (length lent)) (changed-accepted v) d

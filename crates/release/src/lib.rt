@@ -13,9 +13,10 @@ ghost use Rattle.room.specs.Answered.{Answered};
 ghost use Rattle.room.specs.Did.{Did, Fits};
 ghost use Rattle.table.specs.Asked.{GoodRows, RowOf};
 ghost use Rattle.release.specs.Unheld.{roomUnlessHeld};
+use entries::Verdict;
 use entries::bad_address;
-use entries::bad_size;
 use entries::changed_to;
+use entries::first_tests;
 use entries::is_held;
 use entries::is_read;
 use entries::less_one;
@@ -113,14 +114,9 @@ pub fn release_changed(table: &mut [u64], orders: &mut [u64], address: u64, size
     ensures { λ r. ⌜ Answered (step (cacheIn (now (table .entry))) (asking (ReleaseChanged address size) [] (length (now (orders .entry))))) (restIn (now (table .entry))) (now (table .exit)) (now (orders .entry)) (now (orders .exit)) r ⌝ }
 {
     let rows = row_count(table);
-    if too_few_words(rows, orders.len()) {
-        return Answer::Refused(Refusal::OrderWords);
-    }
-    if bad_address(address) {
-        return Answer::Refused(Refusal::Address);
-    }
-    if bad_size(size) {
-        return Answer::Refused(Refusal::Size);
+    let verdict = first_tests(rows, orders.len(), address, size);
+    if let Verdict::Refused(refusal) = verdict {
+        return Answer::Refused(refusal);
     }
     let found = find(table, rows, address);
     match found {

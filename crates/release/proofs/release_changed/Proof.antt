@@ -1,106 +1,86 @@
 -- The words, the address and the size are tested first, then the address is found; where it is found, its row's function has the rest.
 use mathlib.Core.Path.{sym, _∙_}
+use lib.ListN.{length}
 use borrow.Author.Needs.{needs}
 use Rattle.layout.specs.Picture.{cacheIn}
-use Rattle.room.proofs.Outcomes.{words-told}
+use Rattle.room.proofs.Outcomes.{refused-told, proceed-told}
 use Rattle.edits.proofs.Laws.{found-row, found-no}
-use Rattle.release.proofs.Answers.{changed-words, changed-address, changed-size, changed-absent}
+use Rattle.release.proofs.Answers.{changed-first, changed-absent}
 use Rattle.release.proofs.release_changed.Statement.{statement}
 use Rattle.release.proofs.release_changed.Tie as tie
 
 row-count-requires : tie.Need-row-count-requires
 row-count-requires c κs = search needs
 
-too-few-words-requires : tie.Need-too-few-words-requires
-too-few-words-requires c κs = search needs
+first-tests-requires : tie.Need-first-tests-requires
+first-tests-requires c κs = search needs
+
+enum-known-verdict : tie.Need-enum-known-verdict
+enum-known-verdict c = search needs
 
 same-length : tie.Need-same-length
 same-length c = search needs
 
 returns : tie.Need-returns
 returns c =
-    let s = c .before .before .before .before .before .before in
-    changed-words (s .args .address) (s .args .size) (s .args .orders .now) (s .pre) (words-told (s .args .orders .now) (c .before .before .row-count .ensures) (c .before .too-few-words .ensures) (c .if1 .taken))
-
-bad-address-requires : tie.Need-bad-address-requires
-bad-address-requires c κs = search needs
-
-same-length-2 : tie.Need-same-length-2
-same-length-2 c = search needs
-
-returns-2 : tie.Need-returns-2
-returns-2 c =
     let s = c .before .before .before .before .before .before .before .before in
-    let t = words-told (s .args .orders .now) (c .before .before .before .before .row-count .ensures) (c .before .before .before .too-few-words .ensures) (c .before .before .if1 .left) in
-    changed-address (s .args .address) (s .args .size) (s .args .orders .now) (s .pre) t (sym (c .before .bad-address .ensures) ∙ c .if2 .taken)
+    let e = refused-told (length (s .args .orders .now)) (s .args .address) (s .args .size) (c .before .before .before .before .row-count .ensures) (c .before .before .before .first-tests .ensures) (c .before .verdict .given .1) in
+    changed-first (s .args .address) (s .args .size) (s .args .orders .now) (s .pre) _ e
 
-bad-size-requires : tie.Need-bad-size-requires
-bad-size-requires c κs = search needs
-
-same-length-3 : tie.Need-same-length-3
-same-length-3 c = search needs
-
-returns-3 : tie.Need-returns-3
-returns-3 c =
-    let s = c .before .before .before .before .before .before .before .before .before .before in
-    let t = words-told (s .args .orders .now) (c .before .before .before .before .before .before .row-count .ensures) (c .before .before .before .before .before .too-few-words .ensures) (c .before .before .before .before .if1 .left) in
-    changed-size (s .args .address) (s .args .size) (s .args .orders .now) (s .pre) t (sym (c .before .before .before .bad-address .ensures) ∙ c .before .before .if2 .left) (sym (c .before .bad-size .ensures) ∙ c .if3 .taken)
+enum-told : tie.Need-enum-told
+enum-told c = search needs
 
 find-requires : tie.Need-find-requires
 find-requires c κs = search needs
 
-enum-told : tie.Need-enum-told
-enum-told c = search needs
+enum-told-2 : tie.Need-enum-told-2
+enum-told-2 c = search needs
 
 enum-known-found : tie.Need-enum-known-found
 enum-known-found c = search needs
 
 release-changed-row-requires : tie.Need-release-changed-row-requires
 release-changed-row-requires c κs =
-    let s = c .before .before .before .before .before .before .before .before .before .before .before .before .before .before .before .before .before in
-    let t = words-told (s .args .orders .now) (c .before .before .before .before .before .before .before .before .before .before .before .before .before .row-count .ensures) (c .before .before .before .before .before .before .before .before .before .before .before .before .too-few-words .ensures) (c .before .before .before .before .before .before .before .before .before .before .before .if1 .left) in
+    let s = c .before .before .before .before .before .before .before .before .before .before .before .before .before .before in
+    let p = proceed-told (length (s .args .orders .now)) (s .args .address) (s .args .size) (c .before .before .before .before .before .before .before .before .before .before .row-count .ensures) (c .before .before .before .before .before .before .before .before .before .first-tests .ensures) (c .before .before .before .before .before .before .before .enum-told .given .1) in
     let f = found-row (cacheIn (s .args .table .now) .rows) (s .args .address) _ _ (sym (c .before .before .before .before .before .find .ensures) ∙ c .before .before .before .found .given .1) in
-    (record { good = s .pre; size = c .before .before .before .before .before .before .before .before .before .before .before .before .before .row-count .ensures }, f .stands, t, sym (c .before .before .before .before .before .before .before .before .before .before .bad-address .ensures) ∙ c .before .before .before .before .before .before .before .before .before .if2 .left, sym (c .before .before .before .before .before .before .before .before .bad-size .ensures) ∙ c .before .before .before .before .before .before .before .if3 .left)
+    (record { good = s .pre; size = c .before .before .before .before .before .before .before .before .before .before .row-count .ensures }, f .stands, p .words, p .address, p .size)
+
+same-length-2 : tie.Need-same-length-2
+same-length-2 c = search needs
+
+returns-2 : tie.Need-returns-2
+returns-2 c =
+    let s = c .before .before .before .before .before .before .before .before .before .before .before in
+    let p = proceed-told (length (s .args .orders .now)) (s .args .address) (s .args .size) (c .before .before .before .before .before .before .before .row-count .ensures) (c .before .before .before .before .before .before .first-tests .ensures) (c .before .before .before .before .enum-told .given .1) in
+    let n = found-no (cacheIn (s .args .table .now) .rows) (s .args .address) (sym (c .before .before .find .ensures) ∙ c .enum-told2 .given .1) in
+    changed-absent (s .args .address) (s .args .size) (s .args .orders .now) (s .pre) (p .words) (p .address) (p .size) n
+
+same-length-3 : tie.Need-same-length-3
+same-length-3 c = search needs
 
 same-length-4 : tie.Need-same-length-4
 same-length-4 c = search needs
 
-returns-4 : tie.Need-returns-4
-returns-4 c =
-    let s = c .before .before .before .before .before .before .before .before .before .before .before .before .before .before in
-    let t = words-told (s .args .orders .now) (c .before .before .before .before .before .before .before .before .before .before .row-count .ensures) (c .before .before .before .before .before .before .before .before .before .too-few-words .ensures) (c .before .before .before .before .before .before .before .before .if1 .left) in
-    let n = found-no (cacheIn (s .args .table .now) .rows) (s .args .address) (sym (c .before .before .find .ensures) ∙ c .enum-told .given .1) in
-    changed-absent (s .args .address) (s .args .size) (s .args .orders .now) (s .pre) t (sym (c .before .before .before .before .before .before .before .bad-address .ensures) ∙ c .before .before .before .before .before .before .if2 .left) (sym (c .before .before .before .before .before .bad-size .ensures) ∙ c .before .before .before .before .if3 .left) n
-
-same-length-5 : tie.Need-same-length-5
-same-length-5 c = search needs
-
-same-length-6 : tie.Need-same-length-6
-same-length-6 c = search needs
-
-returns-5 : tie.Need-returns-5
-returns-5 c = search needs
+returns-3 : tie.Need-returns-3
+returns-3 c = search needs
 
 pub release-changed-spec : {M : Type 1} → statement M
 release-changed-spec =
     tie.close
     (tie.spec
     row-count-requires
-    too-few-words-requires
+    first-tests-requires
+    enum-known-verdict
     same-length
     returns
-    bad-address-requires
-    same-length-2
-    returns-2
-    bad-size-requires
-    same-length-3
-    returns-3
-    find-requires
     enum-told
+    find-requires
+    enum-told-2
     enum-known-found
     release-changed-row-requires
+    same-length-2
+    returns-2
+    same-length-3
     same-length-4
-    returns-4
-    same-length-5
-    same-length-6
-    returns-5)
+    returns-3)
