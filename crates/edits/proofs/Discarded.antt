@@ -18,7 +18,7 @@ use Rattle.rules.specs.declared.answer.Refusal.the-variants as refusal
 use Rattle.rules.specs.declared.entry.Entry.{Entry}
 use Rattle.rules.specs.declared.request.Request.the-variants.{Discard}
 use Rattle.table.specs.Told.{dropped}
-use Rattle.edits.proofs.Laws.{refused, accepted}
+use Rattle.room.proofs.Outcomes.{refused, accepted}
 
 module _ (c : Cache) (a : ℕ) where
   pub discard-address : badAddress a ≡ true → step c (asking (Discard a) [] 0) ≡ refused refusal.Address c

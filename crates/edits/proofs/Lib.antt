@@ -1,4 +1,3 @@
-pub mod Laws
 pub mod Pinned
 pub mod Discarded
 pub mod Marked

@@ -5,7 +5,7 @@ use mathlib.Core.Bool.{Bool, true, false, not, _||_, false≢true}
 use mathlib.Core.List.{List, [], _∷_, _++_, map}
 use mathlib.Core.Logic.{⊎-elim}
 use mathlib.Core.Path.{_≡_, refl, sym, ap, ap₂, _∙_}
-use native.Mathlib.Nat.{le-of-suc-le-suc, eq-or-lt-of-le}
+use native.Mathlib.Nat.{eq-or-lt-of-le}
 use native.Mathlib.Numerals.{add-one}
 use native.Mathlib.Omega.{arith}
 use lib.Dec.{eqb}
@@ -25,7 +25,7 @@ use Rattle.table.proofs.Told.{number-one, found-at, found-no}
 use Rattle.table.specs.Asked.{RowOf}
 use Rattle.table.specs.Told.{foundIn}
 use Rattle.table.specs.declared.lookup.Found.the-variants.{At, Nothing}
-use Rattle.edits.specs.Listed.{badList, dirtyIn, Named, Judged}
+use Rattle.edits.specs.Listed.{badList, dirtyFound, Named, Judged}
 
 -- ---- lists in two parts
 
@@ -82,24 +82,24 @@ elem-row rows a (x ∷ p) h s e =
 -- ---- what a search for a dirty address tells
 
 module _ (rows : List Row) (a : ℕ) where
-  pub in-dirty : dirtyAt rows a ≡ true → dirtyIn rows a ≡ foundIn rows a
-  unfolding dirtyIn
+  pub in-dirty : dirtyAt rows a ≡ true → dirtyFound rows a ≡ foundIn rows a
+  unfolding dirtyFound
   in-dirty d = rw d
 
-  pub in-clean : dirtyAt rows a ≡ false → dirtyIn rows a ≡ Nothing
-  unfolding dirtyIn
+  pub in-clean : dirtyAt rows a ≡ false → dirtyFound rows a ≡ Nothing
+  unfolding dirtyFound
   in-clean d = rw d
 
-  pub in-none : foundIn rows a ≡ Nothing → dirtyIn rows a ≡ Nothing
+  pub in-none : foundIn rows a ≡ Nothing → dirtyFound rows a ≡ Nothing
   in-none e = in-clean (rw (found-no rows a e))
 
-  dirty-none : dirtyIn rows a ≡ Nothing → dirtyAt rows a ≡ false
+  dirty-none : dirtyFound rows a ≡ Nothing → dirtyAt rows a ≡ false
   dirty-none e =
       split (dirtyAt rows a)
       (λ d. let n = found-no rows a (sym (in-dirty d) ∙ e) in let z : dirtyAt rows a ≡ false = rw n in either (dirtyAt rows a) d z)
       (λ d. d)
 
-  module _ {place row : ℕ} (e : dirtyIn rows a ≡ At place row) where
+  module _ {place row : ℕ} (e : dirtyFound rows a ≡ At place row) where
     told-dirty : dirtyAt rows a ≡ true
     told-dirty =
         split (dirtyAt rows a)
@@ -174,14 +174,14 @@ module _ {rows : List Row} {list named : List ℕ} {seen : List Bool} {i : ℕ} 
     whole : list ≡ take i list ++ getD list i 0 ∷ drop (suc i) list
     whole = split-at list i 0 h
 
-    pub bad-absent : dirtyIn rows (getD list i 0) ≡ Nothing → Judged rows list named true
+    pub bad-absent : dirtyFound rows (getD list i 0) ≡ Nothing → Judged rows list named true
     bad-absent e = judged-bad
         (ap (λ (b : Bool). twice list || b)
         (ap (someAddress (λ a. not (dirtyAt rows a))) whole
         ∙ some-at (λ a. not (dirtyAt rows a)) (getD list i 0) (take i list) (drop (suc i) list) (ap not (dirty-none rows (getD list i 0) e)))
         ∙ or-true (twice list))
 
-    module _ {place row : ℕ} (e : dirtyIn rows (getD list i 0) ≡ At place row) (few : length rows ≤ mostRows) where
+    module _ {place row : ℕ} (e : dirtyFound rows (getD list i 0) ≡ At place row) (few : length rows ≤ mostRows) where
       is-row : RowOf rows (getD list i 0) row
       is-row = told-row rows (getD list i 0) e
 

@@ -14,7 +14,8 @@ use Rattle.rules.specs.Rows.{get, isHere}
 use Rattle.rules.specs.declared.answer.Refusal.the-variants as refusal
 use Rattle.rules.specs.declared.entry.Entry.{Entry}
 use Rattle.rules.specs.declared.request.Request.the-variants.{Pin, Unpin}
-use Rattle.edits.proofs.Laws.{Keeps, refused, accepted}
+use Rattle.table.proofs.Amended.{Keeps}
+use Rattle.room.proofs.Outcomes.{refused, accepted}
 
 pub pin-keeps : (t : Bool) (e : Entry) → Keeps (withPin t) e
 pin-keeps t e = record {

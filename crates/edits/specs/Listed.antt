@@ -24,10 +24,10 @@ abbrev pub taken : List ℕ → Cache → Cache
 taken list c = withRows (amendEach list cleaned (c .rows)) (c .recency) c
 
 -- Where an address stands that is dirty here.
-unfoldable pub dirtyIn : List Row → ℕ → Found
-dirtyIn rows a = if dirtyAt rows a then foundIn rows a else Nothing
+unfoldable pub dirtyFound : List Row → ℕ → Found
+dirtyFound rows a = if dirtyAt rows a then foundIn rows a else Nothing
 
--- The list's addresses are here and distinct, and its rows are noted in its order.
+-- The list is not bad, and the rows of its addresses are noted in its order.
 pub record Named (rows : List Row) (list named : List ℕ) : Type 0 where
   pub good : badList rows list ≡ false
   pub few : length list ≤ mostRows

@@ -10,7 +10,7 @@ ghost use Rattle.layout.specs.Picture.{addresses, cacheIn, restIn};
 ghost use Rattle.layout.specs.Holds.{Holds, Good};
 ghost use Rattle.room.specs.Answered.{Changed};
 ghost use Rattle.table.specs.Asked.{GoodRows};
-ghost use Rattle.edits.specs.Listed.{dirtyIn, Judged, Named, taken};
+ghost use Rattle.edits.specs.Listed.{dirtyFound, Judged, Named, taken};
 use entries::bad_address;
 use entries::is_standby;
 use rules::answer::Answer;
@@ -43,7 +43,7 @@ fn names_all_ones(list: &[u64]) -> bool
 // Where an address that is dirty here stands among the n, looked for first at the place `near`.
 fn find_dirty(table: &[u64], rows: usize, n: usize, near: usize, address: u64) -> Found
     requires { ⌜ GoodRows (now table) rows × (n ≡ length (addresses (cacheIn (now table) .rows))) ⌝ }
-    ensures { λ r. ⌜ r ≡ dirtyIn (cacheIn (now (table .entry)) .rows) address ⌝ }
+    ensures { λ r. ⌜ r ≡ dirtyFound (cacheIn (now (table .entry)) .rows) address ⌝ }
 {
     let found = find_near(table, rows, n, near, address);
     match found {

@@ -20,9 +20,10 @@ use Rattle.rules.specs.Rows.{get, passes, amendAll, remove, place, hasFree, dir
 use Rattle.rules.proofs.Found.{present, get-remove, distinct-remove, distinct-amendAll}
 use Rattle.rules.proofs.Lists.{elem-first, elem-strike, strike-absent, twice-strike}
 use Rattle.rules.proofs.Rising.{rising-unique, rising-once, flush-order}
+use Rattle.rules.proofs.Rising.{elem-insert}
 use Rattle.rules.proofs.Tests.{split, choose, neither}
 use Rattle.layout.specs.Picture.{rowNumber, addressAt, addresses}
-use Rattle.layout.proofs.Rising.{Each, each-of, each-then, rising-strike, elem-insert, length-insert, insert-swap}
+use Rattle.layout.proofs.Rising.{Each, each-of, each-then, rising-strike, length-insert, insert-swap}
 
 -- ---- where an address stands
 

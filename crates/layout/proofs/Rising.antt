@@ -1,6 +1,6 @@
 -- Lists of numbers: what holds of each, and a rising list after a change.
 use Prim.Native.Nat.{ℕ, suc, _<_}
-use mathlib.Core.Bool.{true, _||_, false≢true}
+use mathlib.Core.Bool.{true, false≢true}
 use mathlib.Core.List.{List, [], _∷_, map}
 use mathlib.Core.Path.{_≡_, refl, ap, subst}
 use native.Mathlib.Omega.{arith}
@@ -8,7 +8,6 @@ use lib.Dec.{eqb, leb}
 use lib.ListN.{length}
 use borrow.Author.Tests.{eqb-true, eq-eqb, leb-true, le-leb, lt-leb}
 use Rattle.rules.specs.Addresses.{elem, strike, insertRising}
-use Rattle.rules.specs.Entries.{if_then_else_}
 pub use Rattle.rules.specs.Rising.{Above, Rising}
 pub use Rattle.rules.proofs.Rising.{rising-unique, rising-once}
 use Rattle.rules.proofs.Tests.{split, choose, or-true}
@@ -51,13 +50,6 @@ rising-strike a (x ∷ l) h =
     choose (λ (m : List ℕ). Rising m) (eqb x a) (λ p. rising-strike a l (h .1)) (λ p. (above-strike x a l (h .0), rising-strike a l (h .1)))
 
 -- ---- an address put in
-
-pub elem-insert : (a b : ℕ) (l : List ℕ) → elem b (insertRising a l) ≡ eqb a b || elem b l
-unfolding elem insertRising
-elem-insert a b [] = refl
-elem-insert a b (x ∷ l) =
-    choose (λ (m : List ℕ). elem b m ≡ eqb a b || (eqb x b || elem b l)) (leb a x) (λ p. refl)
-    (λ p. rw (elem-insert a b l) (split (eqb a b) (λ q. rw q (or-true (eqb x b))) (λ q. rw q)))
 
 pub length-insert : (a : ℕ) (l : List ℕ) → length (insertRising a l) ≡ suc (length l)
 unfolding insertRising

@@ -20,7 +20,7 @@ use Rattle.layout.specs.Picture.{cacheIn, restIn}
 use Rattle.room.proofs.Orders.{did-holds}
 use Rattle.room.proofs.Outcomes.{words-fit}
 use Rattle.room.specs.Did.{Did}
-use Rattle.edits.proofs.Laws.{Keeps}
+use Rattle.table.proofs.Amended.{Keeps}
 use Rattle.protect.proofs.Counted.{Countable, count-asks, count-joins}
 
 pub protect-keeps : (x : Access) (e : Entry) → forbids (e .hold) x ≡ false → Keeps (protectedFor x) e

@@ -26,7 +26,7 @@ use Rattle.table.specs.Told.{become}
 use Rattle.room.proofs.Kept.{did-start}
 use Rattle.room.proofs.Outcomes.{words-fit}
 use Rattle.room.specs.Did.{Did, Fits}
-use Rattle.edits.proofs.Laws.{Keeps, asks-touch, told-touch}
+use Rattle.table.proofs.Amended.{Keeps, asks-touch, told-touch}
 use Rattle.sizes.proofs.Resized.{changed-keeps}
 use Rattle.release.specs.Unheld.{roomUnlessHeld}
 

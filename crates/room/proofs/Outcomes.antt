@@ -105,6 +105,20 @@ pub later : (rows lent a s : ℕ) (l : List Test) → ltb lent (3 * (2 * rows + 
     → firstOf (firstTests rows lent a s ++ l) ≡ firstOf l
 later rows lent a s l t b z = next _ _ _ t ∙ next _ _ _ b ∙ next _ _ _ z
 
+-- ---- requests that give no orders
+
+abbrev pub refused : Refusal → Cache → Outcome
+refused r c = record { answer = Refused r; cache = c; orders = [] }
+
+abbrev pub accepted : Cache → Outcome
+accepted c = record { answer = Accepted 0; cache = c; orders = [] }
+
+pub refuses : {o : Outcome} {c : Cache} {rest ws : List ℕ} (r : Refusal) → o ≡ refused r c → Holds ws c rest → Changed o rest ws (Refused r)
+refuses {rest = rest} {ws = ws} r e h = subst (λ (o : Outcome). Changed o rest ws (Refused r)) (sym e) (record { answer = refl; holds = h })
+
+pub accepts : {o : Outcome} {c : Cache} {rest ws : List ℕ} → o ≡ accepted c → Holds ws c rest → Changed o rest ws (Accepted 0)
+accepts {rest = rest} {ws = ws} e h = subst (λ (o : Outcome). Changed o rest ws (Accepted 0)) (sym e) (record { answer = refl; holds = h })
+
 -- ---- the words lent
 
 -- the test of them, as a function makes it that has read the number of rows

@@ -60,7 +60,7 @@ rising-once (a ∷ l) h = rw (above-not a l (h .0)) (rising-once l (h .1))
 
 -- ---- the dirty addresses
 
-elem-insert : (a b : ℕ) (l : List ℕ) → elem b (insertRising a l) ≡ eqb a b || elem b l
+pub elem-insert : (a b : ℕ) (l : List ℕ) → elem b (insertRising a l) ≡ eqb a b || elem b l
 unfolding elem insertRising
 elem-insert a b [] = refl
 elem-insert a b (x ∷ l) =

@@ -24,7 +24,8 @@ use Rattle.layout.specs.Picture.{cacheIn, restIn}
 use Rattle.table.proofs.Told.{good-rows, told-address}
 use Rattle.table.specs.Asked.{GoodRows, RowOf}
 use Rattle.table.specs.Told.{become}
-use Rattle.edits.proofs.Laws.{Keeps, refused, accepted, asks-set, told-set}
+use Rattle.table.proofs.Amended.{Keeps, asks-set, told-set}
+use Rattle.room.proofs.Outcomes.{refused, accepted}
 use Rattle.sizes.proofs.Laws.{flashed-rows}
 
 pub changed-keeps : (s : ℕ) (e : Entry) → badSize s ≡ false → Keeps (changedTo s) e

@@ -5,6 +5,7 @@ pub mod Passes
 pub mod Changed
 pub mod Arrived
 pub mod Turned
+pub mod Amended
 pub mod Tuned
 pub mod Aged
 pub mod Turns

@@ -133,11 +133,14 @@ found-at rows a x y e =
 pub found-place : {ws : List ℕ} {rows : ℕ} → GoodRows ws rows → (a x y : ℕ) → foundIn (cacheIn ws .rows) a ≡ At x y → PlaceIn (addresses (cacheIn ws .rows)) a x
 found-place {ws} g a x y e = let f = found-at (cacheIn ws .rows) a x y e in rw (f .1) (place-key g a (f .0 .here))
 
-pub found-no : (rows : List Row) (a : ℕ) → foundIn rows a ≡ Nothing → get rows a ≡ none
-found-no rows a e =
+pub found-absent : (rows : List Row) (a : ℕ) → foundIn rows a ≡ Nothing → isHere rows a ≡ false
+found-absent rows a e =
     split (isHere rows a)
     (λ h. let q = found-here rows a h in absurd (let z : _≡_ {A = ℕ} 0 1 = cc in omega arith))
-    (λ h. absent (get rows a) h)
+    (λ h. h)
+
+pub found-no : (rows : List Row) (a : ℕ) → foundIn rows a ≡ Nothing → get rows a ≡ none
+found-no rows a e = absent (get rows a) (found-absent rows a e)
 
 pub false-of : (t : Bool) → (t ≡ true → ⊥) → t ≡ false
 false-of true h = absurd (h refl)

@@ -3,9 +3,8 @@ use mathlib.Core.Path.{sym, _∙_}
 use lib.ListN.{length}
 use borrow.Author.Needs.{needs}
 use Rattle.layout.specs.Picture.{cacheIn}
-use Rattle.table.proofs.Told.{found-no}
+use Rattle.table.proofs.Told.{found-at, found-no}
 use Rattle.room.proofs.Outcomes.{refused-told, proceed-told}
-use Rattle.edits.proofs.Laws.{found-row}
 use Rattle.insert.proofs.Answers.{insert-first, insert-present}
 use Rattle.insert.proofs.insert.Statement.{statement}
 use Rattle.insert.proofs.insert.Tie as tie
@@ -63,8 +62,8 @@ returns-3 : tie.Need-returns-3
 returns-3 c =
     let s = c .before .before .before .before .before .before .before .before .before .before .before in
     let p = proceed-told (length (s .args .orders .now)) (s .args .address) (s .args .size) (c .before .before .before .before .before .before .before .row-count .ensures) (c .before .before .before .before .before .before .first-tests .ensures) (c .before .before .before .before .enum-told .given .1) in
-    let f = found-row (cacheIn (s .args .table .now) .rows) (s .args .address) _ _ (sym (c .before .before .find .ensures) ∙ c .enum-told3 .given .1) in
-    insert-present (s .args .address) (s .args .size) (s .args .orders .now) (s .pre) (p .words) (p .address) (p .size) (f .stands .here)
+    let f = found-at (cacheIn (s .args .table .now) .rows) (s .args .address) _ _ (sym (c .before .before .find .ensures) ∙ c .enum-told3 .given .1) in
+    insert-present (s .args .address) (s .args .size) (s .args .orders .now) (s .pre) (p .words) (p .address) (p .size) (f .0 .here)
 
 pub insert-spec : {M : Type 1} → statement M
 insert-spec =

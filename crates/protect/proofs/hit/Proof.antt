@@ -3,7 +3,7 @@ use mathlib.Core.Path.{sym, _∙_}
 use borrow.Author.Needs.{needs}
 use Rattle.rules.specs.Entries.{protectedFor}
 use Rattle.layout.specs.Picture.{cacheIn}
-use Rattle.edits.proofs.Laws.{asks-touch, told-touch}
+use Rattle.table.proofs.Amended.{asks-touch, told-touch}
 use Rattle.protect.proofs.Answers.{protect-held, protect-hit}
 use Rattle.protect.proofs.Protected.{protect-keeps, hit-asks, hit-did}
 use Rattle.protect.proofs.hit.Statement.{statement}

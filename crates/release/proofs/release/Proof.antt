@@ -3,7 +3,7 @@ use mathlib.Core.Path.{sym, _∙_}
 use borrow.Author.Needs.{needs}
 use Rattle.layout.specs.Picture.{cacheIn}
 use Rattle.room.proofs.Outcomes.{words-told}
-use Rattle.edits.proofs.Laws.{found-row, found-no}
+use Rattle.table.proofs.Told.{found-at, found-absent}
 use Rattle.release.proofs.Answers.{release-words, release-address, release-absent}
 use Rattle.release.proofs.release.Statement.{statement}
 use Rattle.release.proofs.release.Tie as tie
@@ -47,8 +47,8 @@ release-row-requires : tie.Need-release-row-requires
 release-row-requires c κs =
     let s = c .before .before .before .before .before .before .before .before .before .before .before .before .before .before .before in
     let t = words-told (s .args .orders .now) (c .before .before .before .before .before .before .before .before .before .before .before .row-count .ensures) (c .before .before .before .before .before .before .before .before .before .before .too-few-words .ensures) (c .before .before .before .before .before .before .before .before .before .if1 .left) in
-    let f = found-row (cacheIn (s .args .table .now) .rows) (s .args .address) _ _ (sym (c .before .before .before .before .before .find .ensures) ∙ c .before .before .before .found .given .1) in
-    (record { good = s .pre; size = c .before .before .before .before .before .before .before .before .before .before .before .row-count .ensures }, f .stands, t, sym (c .before .before .before .before .before .before .before .before .bad-address .ensures) ∙ c .before .before .before .before .before .before .before .if2 .left)
+    let f = found-at (cacheIn (s .args .table .now) .rows) (s .args .address) _ _ (sym (c .before .before .before .before .before .find .ensures) ∙ c .before .before .before .found .given .1) in
+    (record { good = s .pre; size = c .before .before .before .before .before .before .before .before .before .before .before .row-count .ensures }, f .0, t, sym (c .before .before .before .before .before .before .before .before .bad-address .ensures) ∙ c .before .before .before .before .before .before .before .if2 .left)
 
 same-length-3 : tie.Need-same-length-3
 same-length-3 c = search needs
@@ -57,7 +57,7 @@ returns-3 : tie.Need-returns-3
 returns-3 c =
     let s = c .before .before .before .before .before .before .before .before .before .before .before .before in
     let t = words-told (s .args .orders .now) (c .before .before .before .before .before .before .before .before .row-count .ensures) (c .before .before .before .before .before .before .before .too-few-words .ensures) (c .before .before .before .before .before .before .if1 .left) in
-    let n = found-no (cacheIn (s .args .table .now) .rows) (s .args .address) (sym (c .before .before .find .ensures) ∙ c .enum-told .given .1) in
+    let n = found-absent (cacheIn (s .args .table .now) .rows) (s .args .address) (sym (c .before .before .find .ensures) ∙ c .enum-told .given .1) in
     release-absent (s .args .address) (s .args .orders .now) (s .pre) t (sym (c .before .before .before .before .before .bad-address .ensures) ∙ c .before .before .before .before .if2 .left) n
 
 same-length-4 : tie.Need-same-length-4

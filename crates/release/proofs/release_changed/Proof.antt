@@ -4,7 +4,7 @@ use lib.ListN.{length}
 use borrow.Author.Needs.{needs}
 use Rattle.layout.specs.Picture.{cacheIn}
 use Rattle.room.proofs.Outcomes.{refused-told, proceed-told}
-use Rattle.edits.proofs.Laws.{found-row, found-no}
+use Rattle.table.proofs.Told.{found-at, found-absent}
 use Rattle.release.proofs.Answers.{changed-first, changed-absent}
 use Rattle.release.proofs.release_changed.Statement.{statement}
 use Rattle.release.proofs.release_changed.Tie as tie
@@ -43,8 +43,8 @@ release-changed-row-requires : tie.Need-release-changed-row-requires
 release-changed-row-requires c κs =
     let s = c .before .before .before .before .before .before .before .before .before .before .before .before .before .before in
     let p = proceed-told (length (s .args .orders .now)) (s .args .address) (s .args .size) (c .before .before .before .before .before .before .before .before .before .before .row-count .ensures) (c .before .before .before .before .before .before .before .before .before .first-tests .ensures) (c .before .before .before .before .before .before .before .enum-told .given .1) in
-    let f = found-row (cacheIn (s .args .table .now) .rows) (s .args .address) _ _ (sym (c .before .before .before .before .before .find .ensures) ∙ c .before .before .before .found .given .1) in
-    (record { good = s .pre; size = c .before .before .before .before .before .before .before .before .before .before .row-count .ensures }, f .stands, p .words, p .address, p .size)
+    let f = found-at (cacheIn (s .args .table .now) .rows) (s .args .address) _ _ (sym (c .before .before .before .before .before .find .ensures) ∙ c .before .before .before .found .given .1) in
+    (record { good = s .pre; size = c .before .before .before .before .before .before .before .before .before .before .row-count .ensures }, f .0, p .words, p .address, p .size)
 
 same-length-2 : tie.Need-same-length-2
 same-length-2 c = search needs
@@ -53,7 +53,7 @@ returns-2 : tie.Need-returns-2
 returns-2 c =
     let s = c .before .before .before .before .before .before .before .before .before .before .before in
     let p = proceed-told (length (s .args .orders .now)) (s .args .address) (s .args .size) (c .before .before .before .before .before .before .before .row-count .ensures) (c .before .before .before .before .before .before .first-tests .ensures) (c .before .before .before .before .enum-told .given .1) in
-    let n = found-no (cacheIn (s .args .table .now) .rows) (s .args .address) (sym (c .before .before .find .ensures) ∙ c .enum-told2 .given .1) in
+    let n = found-absent (cacheIn (s .args .table .now) .rows) (s .args .address) (sym (c .before .before .find .ensures) ∙ c .enum-told2 .given .1) in
     changed-absent (s .args .address) (s .args .size) (s .args .orders .now) (s .pre) (p .words) (p .address) (p .size) n
 
 same-length-3 : tie.Need-same-length-3

@@ -3,7 +3,8 @@ use mathlib.Core.Path.{sym, _∙_}
 use borrow.Author.Needs.{needs}
 use Rattle.rules.specs.declared.answer.Refusal.the-variants as refusal
 use Rattle.layout.specs.Picture.{cacheIn}
-use Rattle.edits.proofs.Laws.{refuses, found-row, found-no}
+use Rattle.table.proofs.Told.{found-at, found-absent}
+use Rattle.room.proofs.Outcomes.{refuses}
 use Rattle.sizes.proofs.Resized.{resize-address, resize-size, resize-absent}
 use Rattle.sizes.proofs.resize_entry.Statement.{statement}
 use Rattle.sizes.proofs.resize_entry.Tie as tie
@@ -39,8 +40,8 @@ enum-known-found c = search needs
 resize-row-requires : tie.Need-resize-row-requires
 resize-row-requires c κs =
     let s = c .before .before .before .before .before .before .before .before .before .before .before .before .before in
-    let f = found-row (cacheIn (s .args .table .now) .rows) (s .args .address) _ _ (sym (c .before .before .before .before .find .ensures) ∙ c .before .before .found .given .1) in
-    (record { good = s .pre; size = c .before .before .before .before .before .before .row-count .ensures }, f .stands, sym (c .before .before .before .before .before .before .before .before .before .before .before .bad-address .ensures) ∙ c .before .before .before .before .before .before .before .before .before .before .if1 .left, sym (c .before .before .before .before .before .before .before .before .before .bad-size .ensures) ∙ c .before .before .before .before .before .before .before .before .if2 .left)
+    let f = found-at (cacheIn (s .args .table .now) .rows) (s .args .address) _ _ (sym (c .before .before .before .before .find .ensures) ∙ c .before .before .found .given .1) in
+    (record { good = s .pre; size = c .before .before .before .before .before .before .row-count .ensures }, f .0, sym (c .before .before .before .before .before .before .before .before .before .before .before .bad-address .ensures) ∙ c .before .before .before .before .before .before .before .before .before .before .if1 .left, sym (c .before .before .before .before .before .before .before .before .before .bad-size .ensures) ∙ c .before .before .before .before .before .before .before .before .if2 .left)
 
 same-length : tie.Need-same-length
 same-length c = search needs
@@ -48,7 +49,7 @@ same-length c = search needs
 returns-3 : tie.Need-returns-3
 returns-3 c =
     let s = c .before .before .before .before .before .before .before .before .before .before .before in
-    let n = found-no (cacheIn (s .args .table .now) .rows) (s .args .address) (sym (c .before .before .find .ensures) ∙ c .enum-told .given .1) in
+    let n = found-absent (cacheIn (s .args .table .now) .rows) (s .args .address) (sym (c .before .before .find .ensures) ∙ c .enum-told .given .1) in
     refuses refusal.Absent (resize-absent (cacheIn (s .args .table .now)) (s .args .address) (s .args .size) (sym (c .before .before .before .before .before .before .before .before .before .bad-address .ensures) ∙ c .before .before .before .before .before .before .before .before .if1 .left) (sym (c .before .before .before .before .before .before .before .bad-size .ensures) ∙ c .before .before .before .before .before .before .if2 .left) n) (s .pre)
 
 same-length-2 : tie.Need-same-length-2

@@ -4,7 +4,7 @@ use borrow.Author.Needs.{needs}
 use Rattle.rules.specs.declared.answer.Refusal.the-variants as refusal
 use Rattle.layout.specs.Picture.{cacheIn}
 use Rattle.table.proofs.Told.{told-address}
-use Rattle.edits.proofs.Laws.{refuses, accepts}
+use Rattle.room.proofs.Outcomes.{refuses, accepts}
 use Rattle.sizes.proofs.Resized.{own-get, named-asks, named-told, resize-held, resize-unheld, resize-done}
 use Rattle.sizes.proofs.resize_row.Statement.{statement}
 use Rattle.sizes.proofs.resize_row.Tie as tie

@@ -5,7 +5,7 @@ use Rattle.rules.specs.declared.answer.Refusal.the-variants as refusal
 use Rattle.layout.specs.Picture.{cacheIn}
 use Rattle.table.proofs.Told.{place-key}
 use Rattle.edits.proofs.Discarded.{discard-held, discard-pinned, discard-done, discard-listed}
-use Rattle.edits.proofs.Laws.{refuses, accepts}
+use Rattle.room.proofs.Outcomes.{refuses, accepts}
 use Rattle.edits.proofs.discard.discard_row.Statement.{statement}
 use Rattle.edits.proofs.discard.discard_row.Tie as tie
 

@@ -6,7 +6,8 @@ use borrow.Author.Needs.{needs}
 use Rattle.rules.specs.Entries.{withPin}
 use Rattle.rules.specs.declared.answer.Refusal.the-variants as refusal
 use Rattle.layout.specs.Picture.{cacheIn}
-use Rattle.edits.proofs.Laws.{refuses, accepts, asks-set, told-set}
+use Rattle.table.proofs.Amended.{asks-set, told-set}
+use Rattle.room.proofs.Outcomes.{refuses, accepts}
 use Rattle.edits.proofs.Pinned.{pin-keeps, held-listed, pin-unheld, pin-pinned, pin-done}
 use Rattle.edits.proofs.pin.pin_row.Statement.{statement}
 use Rattle.edits.proofs.pin.pin_row.Tie as tie

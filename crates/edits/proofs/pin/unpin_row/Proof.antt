@@ -5,7 +5,8 @@ use borrow.Author.Needs.{needs}
 use Rattle.rules.specs.Entries.{withPin}
 use Rattle.rules.specs.declared.answer.Refusal.the-variants as refusal
 use Rattle.layout.specs.Picture.{cacheIn}
-use Rattle.edits.proofs.Laws.{refuses, accepts, asks-touch, told-touch}
+use Rattle.table.proofs.Amended.{asks-touch, told-touch}
+use Rattle.room.proofs.Outcomes.{refuses, accepts}
 use Rattle.edits.proofs.Pinned.{pin-keeps, unpin-unpinned, unpin-done}
 use Rattle.edits.proofs.pin.unpin_row.Statement.{statement}
 use Rattle.edits.proofs.pin.unpin_row.Tie as tie
