@@ -10,7 +10,22 @@
  * it. A held or pinned entry stays. All others stand in the recency list, from which room is made:
  * clean entries are evicted, the oldest first, and a cache that is alone writes dirty ones before. A
  * lead writes at a flush or sync only and tells its standby by a list, so that both know the same
- * dirty records.
+ * dirty records. docs/RULES.md has each rule.
+ *
+ * Two words have two senses. An entry is held while readers or a writer hold it, between protect and
+ * release; held bytes are the sizes of all entries, held or not. An entry is clean if it is not
+ * dirty; minimum clean bytes are what the settings want to be clean or unused.
+ *
+ * A lead and a standby have the same dirty records at the same sizes, and the same byte count, if
+ * both are opened with the same threshold, both get every insert, changed release, resize and
+ * discard before the next one, the standby takes each list before the next list or change, and no
+ * such change is refused by only one of them. A refusal changes nothing, so the host does each change
+ * at the standby first, and at the lead once the standby has accepted it. If the standby answers
+ * NO_ROW, the lead flushes or syncs, the standby takes the list, and the change is tried again; at
+ * NOT_IN_CACHE, HELD, NOT_HELD and PIN_FORBIDS the entry is protected, released or unpinned where the
+ * change was refused, and it is tried again there. If the second of the two still refuses what the
+ * first has accepted, the standby is built anew: the lead flushes, and both are opened fresh.
+ * docs/RULES.md, "A change that one of them refuses", has an example and each number.
  *
  * The host lends memory for each call and the library keeps none of its own:
  *
@@ -184,17 +199,21 @@ enum speldervacht_decrease {
 /* ---- structs, all words of 8 bytes, passed by value */
 
 /* The settings. The number before a field is what comes with SPELDERVACHT_BAD_SETTING. Words that
- * their kind does not name are not read. */
+ * their kind does not name are not read. Two fields depend on others: evictions may be off only if
+ * the increase, flash and decrease rules are all off (else field 1 is bad), and the lower rate must
+ * be below the upper rate if both count, the increase rule being on and the decrease rule one with
+ * an upper rate (else field 8 is bad). */
 typedef struct speldervacht_settings {
-    uint64_t evictions;         /*  1: whether entries may be evicted: 0 is off, all else on */
+    uint64_t evictions;         /*  1: evictions: 0 is off, all else on; off only with all rules off */
     uint64_t preset;            /*  2: whether the initial size is set; needed at opening */
     uint64_t initial;           /*  3: the maximum to begin with, in [smallest, largest] */
-    double clean;               /*  4: the share of the maximum to be clean or unused, in [0, 1] */
-    uint64_t largest;           /*  5: the maximum never exceeds it */
-    uint64_t smallest;          /*  6: the maximum never falls below it */
-    uint64_t epoch;             /*  7: accesses in an epoch */
+    double clean;               /*  4: minimum clean fraction, in [0, 1]: the share to be clean or unused */
+    uint64_t largest;           /*  5: the maximum never exceeds it; SMALLEST_CACHE to LARGEST_CACHE */
+    uint64_t smallest;          /*  6: the maximum never falls below it; SMALLEST_CACHE to largest */
+    uint64_t epoch;             /*  7: accesses in an epoch; SHORTEST_EPOCH to LONGEST_EPOCH */
     uint64_t increase_kind;     /*  8: enum speldervacht_increase */
-    double increase_lower;      /*     a hit rate below it in a full cache raises the maximum, [0, 1] */
+    double increase_lower;      /*     a hit rate below it in a full cache raises the maximum; in [0, 1],
+                                       and below decrease_upper where that counts */
     double increase_multiplier; /*     by this factor, in (1, 2] */
     uint64_t increment_kind;    /*  9: enum speldervacht_cap, for one increase */
     uint64_t increment_bytes;   /*     up to SPELDERVACHT_LARGEST_CACHE */
@@ -228,11 +247,11 @@ typedef struct speldervacht_answer {
 /* The figures of a cache, in bytes but for entries and due. */
 typedef struct speldervacht_figures {
     uint64_t number;                           /* 0, or SPELDERVACHT_BAD_TABLE and all else is 0 */
-    uint64_t held;                             /* the sizes of all entries */
+    uint64_t held;                             /* held bytes: the sizes of all entries, held or not */
     uint64_t dirty;                            /* the sizes of the dirty ones */
     uint64_t entries;                          /* how many */
     uint64_t maximum;                          /* what held bytes are to stay within */
-    uint64_t clean;                            /* what is to be clean or unused */
+    uint64_t clean;                            /* minimum clean bytes: what is to be clean or unused */
     uint64_t count;                            /* made dirty since the last list */
     uint64_t due;                              /* 1 if the count exceeds the threshold, else 0 */
     uint64_t totals[SPELDERVACHT_IDLE_COUNTS]; /* the sizes of the entries with each idle count */

@@ -6,7 +6,11 @@
 //! [`open`] makes a fresh cache in a table, [`step`] does one request on it, [`report`] tells its
 //! figures. A request is accepted, and the host carries out its orders in turn, or it is refused,
 //! and then nothing has changed. A table has no pointers: the host may copy, move or store it
-//! between requests, and must not write to it.
+//! between requests, and must not write to it. docs/RULES.md has each rule.
+//!
+//! Two words have two senses. An entry is *held* while readers or a writer hold it, between protect
+//! and release; *held bytes* are the sizes of all entries, held or not. An entry is *clean* if it is
+//! not dirty; *minimum clean bytes* are what the settings want to be clean or unused.
 //!
 //! ```
 //! use speldervacht::{open, order_words, report, step, table_words, Mode, Request, Settings};
@@ -35,6 +39,23 @@
 //! assert_eq!(refusal.to_string(), "the entry at 200 is not pinned (10)");
 //! # Ok::<(), speldervacht::Refusal>(())
 //! ```
+//!
+//! # A lead and a standby
+//!
+//! They have the same dirty records at the same sizes, and the same byte count, if both are opened
+//! with the same threshold, both get every insert, changed release, resize and discard before the
+//! next one, the standby takes each list before the next list or change, and no such change is
+//! refused by only one of them. A refusal changes nothing, so the host does each change at the standby
+//! first, and at the lead once the standby has accepted it. What helps then:
+//!
+//! - [`Refusal::NoRow`]: the lead flushes or syncs, the standby takes the list, and the change is tried
+//!   again.
+//! - [`Refusal::NotInCache`], [`Refusal::Held`], [`Refusal::NotHeld`], [`Refusal::Pinned`]: the entry is
+//!   protected, released or unpinned where the change was refused, and it is tried again there.
+//! - If the second of the two still refuses what the first has accepted, the standby is built anew: the
+//!   lead flushes, and both are opened fresh.
+//!
+//! docs/RULES.md, "A change that one of them refuses", has an example and each number.
 
 mod order;
 pub mod raw;
@@ -171,14 +192,14 @@ impl Request<'_> {
 /// The figures of a cache. All but `entries` and `due` are in bytes.
 #[derive(Clone, Copy, Debug, PartialEq, Eq)]
 pub struct Report {
-    /// The sizes of all entries.
+    /// Held bytes: the sizes of all entries, held or not.
     pub held: u64,
     /// The sizes of the dirty ones.
     pub dirty: u64,
     pub entries: u64,
     /// What the cache tries to keep the held bytes within.
     pub maximum: u64,
-    /// What is to be clean or unused.
+    /// Minimum clean bytes: what is to be clean or unused.
     pub minimum_clean: u64,
     /// Bytes made dirty since the last list.
     pub count: u64,

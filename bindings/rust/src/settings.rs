@@ -8,7 +8,7 @@ pub enum Increase {
     Off,
     /// A hit rate below `lower` in a full cache multiplies the maximum.
     Threshold {
-        /// In [0, 1].
+        /// In [0, 1], and below the `upper` of the decrease rule if that has one; else setting 8 is bad.
         lower: f64,
         /// In (1, 2].
         multiplier: f64,
@@ -62,12 +62,14 @@ pub enum Decrease {
 /// The settings of a cache. Their numbers, from 1 to 12, come with a refusal.
 #[derive(Clone, Copy, Debug, PartialEq)]
 pub struct Settings {
-    /// 1: whether entries may be evicted to make room; with it off all three rules must be off.
+    /// 1: whether entries may be evicted to make room. It may be off only if the increase, flash and
+    /// decrease rules are all off; else setting 1 is bad.
     pub evictions: bool,
     /// 2 and 3: the maximum to begin with, within [`minimum_size`, `maximum_size`]. Opening needs
     /// it; configuring without it brings the maximum it finds into the range.
     pub initial_size: Option<u64>,
-    /// 4: the share of the maximum that is to be clean or unused, in [0, 1].
+    /// 4: the minimum clean fraction: the share of the maximum that is to be clean or unused, in
+    /// [0, 1].
     pub clean_fraction: f64,
     /// 5: what the maximum never exceeds, from 1,024 to 134,217,728 bytes.
     pub maximum_size: u64,
@@ -75,7 +77,7 @@ pub struct Settings {
     pub minimum_size: u64,
     /// 7: accesses in an epoch, from 100 to 1,000,000.
     pub epoch_length: u64,
-    /// 8
+    /// 8: its lower rate is below the upper rate of the decrease rule, where both count.
     pub increase: Increase,
     /// 9: the most bytes of one increase, up to 134,217,728; `None` for no cap.
     pub increase_cap: Option<u64>,
