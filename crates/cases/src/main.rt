@@ -2,6 +2,7 @@
 // report.
 mod requests;
 
+use entries::default_threshold;
 use requests::discard;
 use requests::flush;
 use requests::insert;
@@ -20,14 +21,13 @@ use shell::setup::ORDER_WORDS;
 use shell::setup::Orders;
 use shell::setup::ROWS;
 use shell::setup::TABLE_WORDS;
-use shell::setup::THRESHOLD;
 use shell::setup::Table;
 use shell::setup::small;
 use shell::setup::small_with;
 
 // P1's inserts, the last with this size.
 fn three_inserts(table: &mut Table, orders: &mut Orders, size: u64) {
-    open(table, ROWS, Mode::Alone, THRESHOLD, small());
+    open(table, ROWS, Mode::Alone, default_threshold(), small());
     insert(table, orders, 100, 3000);
     insert(table, orders, 200, 1000);
     insert(table, orders, 300, size);
@@ -48,7 +48,7 @@ fn p2(table: &mut Table, orders: &mut Orders) {
 
 fn p3(table: &mut Table, orders: &mut Orders) {
     print::text(b"P3\n");
-    open(table, 1, Mode::Alone, THRESHOLD, small());
+    open(table, 1, Mode::Alone, default_threshold(), small());
     insert(table, orders, 100, 50);
     protect(table, orders, 100, 50);
     pin(table, orders, 100);
@@ -61,7 +61,7 @@ fn p3(table: &mut Table, orders: &mut Orders) {
 
 fn p4(table: &mut Table, orders: &mut Orders) {
     print::text(b"P4\n");
-    open(table, ROWS, Mode::Alone, THRESHOLD, small());
+    open(table, ROWS, Mode::Alone, default_threshold(), small());
     protect(table, orders, 100, 10);
     protect(table, orders, 100, 10);
     release(table, orders, 100);
@@ -81,7 +81,7 @@ fn p9(table: &mut Table, orders: &mut Orders) {
 
 fn p10(table: &mut Table, orders: &mut Orders) {
     print::text(b"P10\n");
-    open(table, ROWS, Mode::Standby, THRESHOLD, small());
+    open(table, ROWS, Mode::Standby, default_threshold(), small());
     insert(table, orders, 100, 600);
     take(table, orders, 100, 100);
     insert(table, orders, u64::MAX, 0);
@@ -90,7 +90,7 @@ fn p10(table: &mut Table, orders: &mut Orders) {
 
 fn p11(table: &mut Table, orders: &mut Orders) {
     print::text(b"P11\n");
-    open(table, 2, Mode::Lead, THRESHOLD, small());
+    open(table, 2, Mode::Lead, default_threshold(), small());
     insert(table, orders, 100, 100);
     insert(table, orders, 200, 100);
     insert(table, orders, 300, 100);
@@ -107,7 +107,13 @@ fn case_12(table: &mut Table, orders: &mut Orders) {
         epochs: 1,
         reserve: 0.25,
     };
-    open(table, ROWS, Mode::Alone, THRESHOLD, small_with(ageing));
+    open(
+        table,
+        ROWS,
+        Mode::Alone,
+        default_threshold(),
+        small_with(ageing),
+    );
     insert(table, orders, 100, 1500);
     use_often(table, orders, 100, 1500, 1);
     use_often(table, orders, 200, 900, 98);

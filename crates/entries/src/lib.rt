@@ -21,6 +21,7 @@ pub use limits::Verdict;
 pub use limits::bad_address;
 pub use limits::bad_size;
 pub use limits::count_with;
+pub use limits::default_threshold;
 pub use limits::first_tests;
 pub use limits::is_alone;
 pub use limits::is_lead;

@@ -1,8 +1,8 @@
-// Tests of a request's numbers and of the mode, and the byte count.
+// Tests of a request's numbers and of the mode, the default threshold, and the byte count.
 ghost use mathlib.Core.Path.{_≡_};
 ghost use Prim.Native.Nat.{_+_, _*_, _≤_, min};
 ghost use lib.Dec.{ltb};
-ghost use Rattle.rules.specs.Limits.{countStop, mostSize, mostRows};
+ghost use Rattle.rules.specs.Limits.{countStop, defaultThreshold, mostSize, mostRows};
 ghost use Rattle.rules.specs.Refusals.{firstOf, badAddress, badSize, isAlone, isStandby, isLead};
 ghost use Rattle.entries.specs.FirstTests.{firstTests, verdictOf};
 use rules::answer::Refusal;
@@ -11,6 +11,8 @@ use rules::request::Mode;
 const ALL_ONES: u64 = 0xffff_ffff_ffff_ffff;
 
 const MOST_SIZE: u64 = 134217728;
+
+const DEFAULT_THRESHOLD: u64 = 262144;
 
 const COUNT_STOP: u64 = 1099511627776;
 
@@ -86,6 +88,13 @@ pub fn is_lead(mode: Mode) -> bool
         Mode::Lead => true,
         Mode::Standby => false,
     }
+}
+
+// The dirty-byte threshold by default.
+pub fn default_threshold() -> u64
+    ensures { λ r. ⌜ r ≡ defaultThreshold ⌝ }
+{
+    DEFAULT_THRESHOLD
 }
 
 // The byte count with a size more, within its stop.

@@ -19,6 +19,10 @@ mostIdle = 10
 abbrev pub mostThreshold : ℕ
 mostThreshold = 1_073_741_824
 
+-- the dirty-byte threshold by default
+abbrev pub defaultThreshold : ℕ
+defaultThreshold = 262_144
+
 -- where the byte count stops
 abbrev pub countStop : ℕ
 countStop = 1_099_511_627_776

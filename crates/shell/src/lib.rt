@@ -11,6 +11,7 @@ mod input;
 pub mod print;
 pub mod setup;
 
+use entries::default_threshold;
 use rules::answer::Answer;
 use rules::request::Mode;
 use rules::request::Request;
@@ -18,7 +19,6 @@ use setup::ORDER_WORDS;
 use setup::Orders;
 use setup::ROWS;
 use setup::TABLE_WORDS;
-use setup::THRESHOLD;
 use setup::Table;
 use setup::small;
 
@@ -37,7 +37,7 @@ pub fn serve() {
     let mut table = [0u64; TABLE_WORDS];
     let mut orders = [0u64; ORDER_WORDS];
     let mut bytes = io::large_buffer();
-    let answer = cache::open(&mut table, ROWS, Mode::Alone, THRESHOLD, small());
+    let answer = cache::open(&mut table, ROWS, Mode::Alone, default_threshold(), small());
     match answer {
         Answer::Accepted(_) => input::run(&mut table, &mut orders, &mut bytes),
         Answer::Refused(r) => print::refusal(r),

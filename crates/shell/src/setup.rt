@@ -11,9 +11,6 @@ use settings::Settings;
 
 pub const ROWS: u64 = 4;
 
-// The dirty-byte threshold that is the default.
-pub const THRESHOLD: u64 = 262144;
-
 // 128 words, and 32 for each row.
 pub const TABLE_WORDS: usize = 256;
 
