@@ -1,22 +1,25 @@
 -- A state that document 01 allows stays one under every request, and a fresh cache is one: the rows, the entries and the list by what each
 -- request does, the figures by their ranges.
-use Prim.Native.Nat.{ℕ, zero, suc, _-_}
+use Prim.Native.Nat.{ℕ, zero, suc, _-_, _≤_, _<_}
 use mathlib.Core.Path.{_≡_, refl, sym, ap, subst, _∙_}
-use mathlib.Core.Bool.{true, false, not, _||_}
-use mathlib.Core.Option.{none, some, Option·some-ne-none}
-use mathlib.Core.List.{List}
+use mathlib.Core.Bool.{true, false, not, _&&_, _||_, false≢true}
+use mathlib.Core.Option.{Option, none, some, Option·some-ne-none}
+use mathlib.Core.List.{List, [], _∷_, _++_}
 use native.Mathlib.Omega.{arith}
-use lib.Dec.{eqb, ltb}
+use lib.Dec.{eqb, leb, ltb}
 use lib.ListN.{length, replicate}
-use borrow.Author.Tests.{eqb-true, eqb-false, ltb-false, not-false}
+use borrow.Author.Tests.{eqb-true, eqb-false, leb-true, ltb-true, ltb-false, not-false}
+use Rattle.fraction.specs.Examples.{every}
 use Rattle.settings.specs.declared.Settings.{Settings}
 use Rattle.settings.specs.Validation.{firstBad}
+use Rattle.rules.specs.declared.answer.Refusal.{Refusal}
 use Rattle.rules.specs.declared.entry.Row.the-variants.{Free}
 use Rattle.rules.specs.declared.request.Mode.{Mode}
 use Rattle.rules.specs.declared.request.Request.{Request}
 use Rattle.rules.specs.declared.request.Request.the-variants.{Insert, Protect, Release, ReleaseChanged, Pin, Unpin, Resize, Discard, Flush, Sync, Take, Configure}
 use Rattle.rules.specs.Allowed.{Sound, Allowed}
-use Rattle.rules.specs.Cache.{Cache, Work, start, fresh, touch}
+use Rattle.rules.specs.Cache.{Cache, Work, start, fresh, touch, withCounters}
+use Rattle.rules.specs.Cases.{Setup, opened, later, counting, after, cacheOf, isNone, isValid, Case, AllowedSetups, cases, further}
 use Rattle.rules.specs.Entries.{changedTo, protectedFor, released}
 use Rattle.rules.specs.Limits.{mostRows, mostThreshold}
 use Rattle.rules.specs.Opening.{refusalOfOpening, openingTests}
@@ -25,6 +28,7 @@ use Rattle.rules.specs.Requests.{effect, step, adds, loaded, roomIfRelea
 use Rattle.rules.specs.Resizing.{flashed}
 use Rattle.rules.specs.Room.{makeRoom}
 use Rattle.rules.specs.Rows.{isHere, dirtyAt, sizeAt}
+use Rattle.rules.proofs.Cases.{valid}
 use Rattle.rules.proofs.Effects.{effects, flash-sound, named-sound, ready}
 use Rattle.rules.proofs.Epochs.{released-moves}
 use Rattle.rules.proofs.Figures.{InRange, figuresOf, moves-figures, room-figures, flash-range, count-range, recounted, adds-most, configured-range, passed-opening, passed}
@@ -32,7 +36,7 @@ use Rattle.rules.proofs.Fit.{fit-entries, entries-fit}
 use Rattle.rules.proofs.Moves.{dirty-moves, sound-listed, sound-same}
 use Rattle.rules.proofs.Sound.{none-free, sound-fresh, sound-touch, sound-load}
 use Rattle.rules.proofs.Steps.{failed, stepped}
-use Rattle.rules.proofs.Tests.{choose, neither}
+use Rattle.rules.proofs.Tests.{choose, neither, both}
 
 -- ---- the figures, by request
 
@@ -138,3 +142,52 @@ fresh-allowed n m t s h =
       hits = omega arith;
       count = omega arith;
     }
+
+-- ---- the setups of the worked cases
+
+-- counters in their ranges
+counters-allowed : (accesses hits : ℕ) (c : Cache) → accesses < c .settings .epoch → hits ≤ accesses → Allowed c
+    → Allowed (withCounters accesses hits c)
+counters-allowed accesses hits c e h k = record {
+  someRows = k .someRows;
+  rows = k .rows;
+  entries = k .entries;
+  sound = sound-same c (withCounters accesses hits c) refl refl (k .sound);
+  someBytes = k .someBytes;
+  threshold = k .threshold;
+  settings = k .settings;
+  least = k .least;
+  most = k .most;
+  accesses = e;
+  hits = h;
+  count = k .count;
+}
+
+after-allowed : (c : Cache) (calls : List Call) → Allowed c → Allowed (after c calls)
+unfolding after
+after-allowed c [] k = k
+after-allowed c (call ∷ rest) k = after-allowed (step c call .cache) rest (step-allowed c call k)
+
+is-none : (r : Option Refusal) → isNone r ≡ true → r ≡ none
+is-none none h = refl
+is-none (some r) h = absurd (false≢true h)
+
+valid-allowed : (u : Setup) → isValid u ≡ true → Allowed (cacheOf u)
+unfolding isValid cacheOf
+valid-allowed (opened rows mode threshold s) h = fresh-allowed rows mode threshold s (is-none _ h)
+valid-allowed (later calls u) h = after-allowed (cacheOf u) calls (valid-allowed u h)
+valid-allowed (counting accesses hits u) h =
+    let early = ltb accesses (cacheOf u .settings .epoch) in
+    let f = both (isValid u && early) (leb hits accesses) h in
+    let g = both (isValid u) early (f .0) in
+    counters-allowed accesses hits (cacheOf u) (ltb-true _ _ (g .1)) (leb-true _ _ (f .1)) (valid-allowed u (g .0))
+
+each-allowed : (xs : List Case) → every (λ x. isValid (x .setup)) xs ≡ true → AllowedSetups xs
+unfolding every AllowedSetups
+each-allowed [] h = tt
+each-allowed (x ∷ rest) h =
+    let f = both (isValid (x .setup)) (every (λ y. isValid (y .setup)) rest) h in
+    (valid-allowed (x .setup) (f .0), each-allowed rest (f .1))
+
+pub cases-allowed : AllowedSetups (cases ++ further)
+cases-allowed = each-allowed (cases ++ further) valid

@@ -1,11 +1,13 @@
--- The worked cases hold, by computation.
+-- The worked cases hold, and their setups are valid, by computation.
 use mathlib.Core.Path.{_≡_, refl}
-use mathlib.Core.List.{map}
+use mathlib.Core.Bool.{true}
+use mathlib.Core.List.{map, _++_}
 use lib.Ieee.{mul, div, sub, lt, le, eq, round, ofInt, toUnsigned}
+use Rattle.fraction.specs.Examples.{every}
 use Rattle.fraction.specs.Fraction.{sizeProduct, hitRate, reserveQuotient, exceedsShare}
 use Rattle.settings.specs.Validation.{firstBad}
 use Rattle.rules.specs.Addresses.{elem, strike, someAddress, twice, insertRising}
-use Rattle.rules.specs.Cases.{cases, further, ran, run, after, reversed}
+use Rattle.rules.specs.Cases.{cases, further, ran, run, after, reversed, cacheOf, isValid}
 use Rattle.rules.specs.Opening.{refusalOfOpening}
 use Rattle.rules.specs.Refusals.{firstOf, tests, refusalOf}
 use Rattle.rules.specs.Reports.{reportOf, totalsFrom}
@@ -20,9 +22,13 @@ unfolding elem strike someAddress twice insertRising firstOf tests refusalOf ref
 computing = tt
 
 pub worked : map ran cases ≡ map (λ x. x .gives) cases
-unfolding computing run reversed
+unfolding computing cacheOf run reversed
 worked = refl
 
 pub worked-further : map ran further ≡ map (λ x. x .gives) further
-unfolding computing run after reversed
+unfolding computing cacheOf run after reversed
 worked-further = refl
+
+pub valid : every (λ x. isValid (x .setup)) (cases ++ further) ≡ true
+unfolding computing every isValid cacheOf after
+valid = refl

@@ -10,8 +10,8 @@ pub mod Refusals
 pub mod Opening
 pub mod Requests
 pub mod Reports
-pub mod Cases
 pub mod Allowed
+pub mod Cases
 pub mod Ledger
 pub mod Hosts
 pub mod History
