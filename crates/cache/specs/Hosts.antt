@@ -8,6 +8,7 @@ use lib.Dec.{eqb, ltb}
 use lib.ListN.{getD, drop}
 use Rattle.settings.specs.declared.Settings.{Settings}
 use Rattle.settings_words.specs.FloatsFit.{FloatsFit}
+use Rattle.settings_words.specs.Words.{flagOf}
 use Rattle.rules.specs.declared.answer.Answer.the-variants.{Accepted}
 use Rattle.rules.specs.declared.order.Kind.the-variants.{Write}
 use Rattle.rules.specs.declared.request.Mode.the-variants.{Lead, Standby}
@@ -17,8 +18,8 @@ use Rattle.rules.specs.Answers.{answerOrders}
 use Rattle.rules.specs.Entries.{if_then_else_}
 use Rattle.rules.specs.Hosts.{isAccepted, Pending, settled, leadHad, standbyHad, sent, heard}
 use Rattle.rules.specs.Ledger.{Ledger, blank, hearList, Shared, Local, Sends}
-use Rattle.layout.specs.Layout.{rowAt, flagOf, kindWord}
-use Rattle.cache.specs.Tables.{Left, stepWords, openWords}
+use Rattle.layout.specs.Layout.{rowAt, kindWord}
+use Rattle.cache.specs.Tables.{Left, stepWords, openWords, reportWords}
 
 -- ---- what a host reads
 

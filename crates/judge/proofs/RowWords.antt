@@ -9,6 +9,7 @@ use borrow.Author.Tests.{eq-eqb, ne-eqb, eqb-true, eqb-false}
 use lib.Dec.{eqb}
 use lib.ListN.{length, getD, take, drop, length-drop, List·getD-append}
 use lib.Seq.{getD-drop, take-add, drop-cons, drop-drop}
+use Rattle.settings_words.specs.Words.{flagWord, flagOf}
 use Rattle.rules.specs.declared.entry.Entry.{Entry}
 use Rattle.rules.specs.declared.entry.Hold.{Hold}
 use Rattle.rules.specs.declared.entry.Hold.the-variants.{Unheld, Readers, Writer}
@@ -17,7 +18,7 @@ use Rattle.rules.specs.declared.entry.Row.the-variants.{Free, Used}
 use Rattle.rules.specs.Allowed.{HoldAllowed, EntryAllowed}
 use Rattle.rules.specs.Entries.{isHeld, isListed}
 use Rattle.rules.proofs.Tests.{choose}
-use Rattle.layout.specs.Layout.{ones, rowAt, flagWord, flagOf, holdWord, holdOf}
+use Rattle.layout.specs.Layout.{ones, rowAt, holdWord, holdOf}
 use Rattle.layout.specs.Picture.{addressOf, rowWords, rowsWords, entryOf, rowOf, rowsOf}
 use Rattle.layout.proofs.ReadBack.{RowAllowed}
 use Rattle.judge.specs.Fits.{RowFits, FitsAt, listedWords}

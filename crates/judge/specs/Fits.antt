@@ -6,9 +6,10 @@ use mathlib.Core.List.{List}
 use lib.Dec.{eqb}
 use lib.ListN.{length, getD, take, drop}
 use Rattle.settings_words.specs.Picture.{picture}
+use Rattle.settings_words.specs.Words.{flagOf}
 use Rattle.rules.specs.Addresses.{elem, twice}
 use Rattle.rules.specs.Limits.{mostRows, mostSize, mostIdle, mostThreshold, countStop}
-use Rattle.layout.specs.Layout.{ones, version, settingsAt, headerWords, rowAt, recencyAt, addressesAt, layoutWords, flagOf}
+use Rattle.layout.specs.Layout.{ones, version, settingsAt, headerWords, rowAt, recencyAt, addressesAt, layoutWords}
 use Rattle.layout.specs.Picture.{run, runOf}
 
 -- r says whether P holds.

@@ -10,7 +10,8 @@ use lib.Dec.{eqb}
 use lib.ListN.{length, drop, length-append, length-map}
 use borrow.Author.Tests.{eqb-true, eq-eqb, ne-eqb}
 use Rattle.settings_words.specs.FloatsFit.{FloatsFit}
-use Rattle.settings_words.proofs.ReadBack.{read-back}
+use Rattle.settings_words.specs.Words.{flagOf}
+use Rattle.settings_words.proofs.ReadBack.{flag-back, read-back}
 use Rattle.rules.specs.declared.entry.Entry.{Entry}
 use Rattle.rules.specs.declared.entry.Hold.the-variants.{Unheld, Readers, Writer}
 use Rattle.rules.specs.declared.entry.Hold.{Hold}
@@ -23,17 +24,13 @@ use Rattle.rules.specs.Cache.{Cache}
 use Rattle.rules.specs.Limits.{mostRows}
 use Rattle.rules.specs.Rows.{get}
 use Rattle.rules.proofs.Tests.{split}
-use Rattle.layout.specs.Layout.{ones, rowAt, recencyAt, flagWord, flagOf, modeWord, modeOf, holdWord, holdOf}
+use Rattle.layout.specs.Layout.{ones, rowAt, recencyAt, modeWord, modeOf, holdWord, holdOf}
 use Rattle.layout.specs.Picture.{rowNumber, addressAt, addresses, entryWords, rowWords, rowsWords, run, headWords, encode, entryOf, rowOf, rowsOf, runOf, cacheIn, restIn}
 use Rattle.layout.proofs.Numbers.{map-back, numbers-low, recency-here, listed-most, used-most}
 use Rattle.layout.proofs.Rising.{Each}
 use Rattle.layout.proofs.Seams.{past, length-head, length-row, drop-recency, drop-rest}
 
 -- ---- one word
-
-pub flag-back : (b : Bool) → flagOf (flagWord b) ≡ b
-flag-back true = refl
-flag-back false = refl
 
 pub mode-back : (m : Mode) → modeOf (modeWord m) ≡ m
 mode-back Alone = refl

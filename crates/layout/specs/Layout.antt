@@ -14,7 +14,6 @@
 --   29 + 7 n   address run: row numbers of the entries by rising address, then all ones
 --   29 + 8 n   the end of the layout
 use Prim.Native.Nat.{ℕ, _+_, _*_}
-use mathlib.Core.Bool.{Bool, true, false, not}
 use mathlib.Core.List.{List, [], _∷_}
 use lib.Dec.{eqb}
 use Rattle.rules.specs.Entries.{if_then_else_}
@@ -58,13 +57,6 @@ abbrev pub layoutWords : ℕ → ℕ
 layoutWords n = headerWords + n * width + n + n
 
 -- ---- words
-
-abbrev pub flagWord : Bool → ℕ
-flagWord true = 1
-flagWord false = 0
-
-abbrev pub flagOf : ℕ → Bool
-flagOf w = not (eqb w 0)
 
 abbrev pub modeWord : Mode → ℕ
 modeWord Alone = 0

@@ -4,7 +4,7 @@ use mathlib.Core.Bool.{Bool, true, false}
 use mathlib.Core.List.{List, [], _∷_, _++_, map}
 use lib.Dec.{eqb}
 use lib.ListN.{length, getD, drop, replicate}
-use Rattle.settings_words.specs.Words.{settingsWords}
+use Rattle.settings_words.specs.Words.{flagWord, flagOf, settingsWords}
 use Rattle.settings_words.specs.Picture.{settingsOf}
 use Rattle.rules.specs.declared.entry.Entry.{Entry}
 use Rattle.rules.specs.declared.entry.Row.{Row}
@@ -13,7 +13,7 @@ use Rattle.rules.specs.declared.order.Order.{Order}
 use Rattle.rules.specs.Addresses.{insertRising}
 use Rattle.rules.specs.Cache.{Cache}
 use Rattle.rules.specs.Entries.{if_then_else_}
-use Rattle.layout.specs.Layout.{ones, version, settingsAt, rowAt, recencyAt, addressesAt, layoutWords, flagWord, flagOf, modeWord, modeOf, holdWord, holdOf, kindWord}
+use Rattle.layout.specs.Layout.{ones, version, settingsAt, rowAt, recencyAt, addressesAt, layoutWords, modeWord, modeOf, holdWord, holdOf, kindWord}
 
 -- ---- rows by number
 

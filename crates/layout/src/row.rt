@@ -8,10 +8,10 @@ ghost use Rattle.layout.specs.Picture.{entryOf};
 ghost use Rattle.layout.specs.Leaves.{putRow};
 use crate::HEADER;
 use crate::WIDTH;
-use crate::word::flag_word;
 use crate::word::hold_of;
 use crate::word::hold_word;
 use rules::entry::Entry;
+use settings_words::flag_word;
 
 // The entry of a row's words; its size is 0 where the row is free.
 pub fn entry_at(table: &[u64], row: usize) -> Entry

@@ -1,18 +1,12 @@
 // What one word says.
 ghost use mathlib.Core.Path.{_≡_};
-ghost use Rattle.layout.specs.Layout.{flagWord, modeWord, modeOf, holdWord, holdOf, kindWord};
+ghost use Rattle.layout.specs.Layout.{modeWord, modeOf, holdWord, holdOf, kindWord};
 use rules::entry::Hold;
 use rules::order::Kind;
 use rules::request::Mode;
 
 // The word of a writer's hold; below it stands the number of readers.
 const WRITER: u64 = 65536;
-
-pub fn flag_word(b: bool) -> u64
-    ensures { λ r. ⌜ r ≡ flagWord b ⌝ }
-{
-    if b { 1 } else { 0 }
-}
 
 pub fn hold_word(h: Hold) -> u64
     ensures { λ r. ⌜ r ≡ holdWord h ⌝ }

@@ -15,15 +15,15 @@ use Rattle.settings.specs.declared.Flash.{Flash}
 use Rattle.settings.specs.declared.Flash.the-variants as flash
 use Rattle.settings.specs.declared.Decrease.{Decrease}
 use Rattle.settings.specs.declared.Decrease.the-variants as decrease
-use Rattle.settings_words.specs.Words.{word, flagWord, capWords, increaseWords, flashWords, decreaseWords, settingsWords}
+use Rattle.settings_words.specs.Words.{word, flagWord, flagOf, capWords, increaseWords, flashWords, decreaseWords, settingsWords}
 use Rattle.settings_words.specs.FloatsFit.{FloatFits, IncreaseFits, FlashFits, DecreaseFits, FloatsFit}
-use Rattle.settings_words.specs.Picture.{float, flagOf, capOf, increaseOf, flashOf, decreaseOf, settingsOf}
+use Rattle.settings_words.specs.Picture.{float, capOf, increaseOf, flashOf, decreaseOf, settingsOf}
 use Rattle.settings_words.proofs.Flat.{words-flat}
 
 float-back : (x : Float) → FloatFits x → float (word x) ≡ x
 float-back x h = ofBits-toBits binary64 x h
 
-flag-back : (b : Bool) → flagOf (flagWord b) ≡ b
+pub flag-back : (b : Bool) → flagOf (flagWord b) ≡ b
 flag-back true = refl
 flag-back false = refl
 

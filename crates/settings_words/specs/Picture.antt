@@ -1,6 +1,6 @@
 -- The settings that 21 words stand for, and which words are a picture of settings. Definitions only.
 use Prim.Native.Nat.{ℕ}
-use mathlib.Core.Bool.{Bool, true, false, not, _&&_, cond}
+use mathlib.Core.Bool.{Bool, true, false, _&&_, cond}
 use mathlib.Core.List.{List, [], _∷_}
 use lib.Dec.{eqb}
 use lib.ListN.{getD}
@@ -15,15 +15,12 @@ use Rattle.settings.specs.declared.Flash.the-variants as flash
 use Rattle.settings.specs.declared.Decrease.{Decrease}
 use Rattle.settings.specs.declared.Decrease.the-variants as decrease
 use Rattle.settings.specs.Validation.{firstBad}
-use Rattle.settings_words.specs.Words.{settingsWords}
+use Rattle.settings_words.specs.Words.{flagOf, settingsWords}
 
 -- ---- the settings of any words; a kind that stands for nothing is read as the last kind
 
 abbrev pub float : ℕ → Float
 float w = ofBits binary64 w
-
-abbrev pub flagOf : ℕ → Bool
-flagOf w = not (eqb w 0)
 
 abbrev pub capOf : ℕ → ℕ → Cap
 capOf kind bytes = cond (eqb kind 0) cap.None (cap.Upto bytes)

@@ -1,7 +1,8 @@
 -- The 21 words of the settings. Definitions only.
 use Prim.Native.Nat.{ℕ}
-use mathlib.Core.Bool.{Bool, cond}
+use mathlib.Core.Bool.{Bool, true, false, not}
 use mathlib.Core.List.{List, [], _∷_, _++_}
+use lib.Dec.{eqb}
 use lib.Ieee.{Float, binary64, toBits}
 use Rattle.settings.specs.declared.Settings.{Settings}
 use Rattle.settings.specs.declared.Increase.{Increase}
@@ -17,7 +18,11 @@ abbrev pub word : Float → ℕ
 word x = toBits binary64 x
 
 abbrev pub flagWord : Bool → ℕ
-flagWord b = cond b 1 0
+flagWord true = 1
+flagWord false = 0
+
+abbrev pub flagOf : ℕ → Bool
+flagOf w = not (eqb w 0)
 
 -- the kind and the bytes
 abbrev pub capWords : Cap → List ℕ

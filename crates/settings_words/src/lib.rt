@@ -32,7 +32,7 @@ use parts::cap_of;
 use parts::cap_words;
 use parts::decrease_of;
 use parts::decrease_words;
-use parts::flag_word;
+pub use parts::flag_word;
 use parts::flash_of;
 use parts::flash_words;
 use parts::increase_of;

@@ -13,6 +13,7 @@ use Rattle.settings.specs.declared.Flash.{Flash}
 use Rattle.settings.specs.declared.Flash.the-variants as flash
 use Rattle.settings.specs.declared.Decrease.{Decrease}
 use Rattle.settings.specs.declared.Decrease.the-variants as decrease
+use Rattle.settings_words.specs.Words.{flagOf}
 use Rattle.rules.specs.Entries.{if_then_else_}
 use Rattle.rules.specs.Limits.{allOnes}
 use Rattle.rules.specs.declared.request.Access.the-variants.{Reading, Writing}
@@ -20,7 +21,6 @@ use Rattle.rules.specs.declared.request.Mode.{Mode}
 use Rattle.rules.specs.declared.request.Mode.the-variants.{Alone, Lead, Standby}
 use Rattle.rules.specs.declared.request.Request.{Request}
 use Rattle.rules.specs.declared.request.Request.the-variants.{Insert, Protect, Release, ReleaseChanged, Pin, Unpin, Resize, Discard, Flush, Sync, Take, Configure}
-use Rattle.layout.specs.Layout.{flagOf}
 use Rattle.speldervacht.specs.declared.raw.RawCap.{RawCap}
 use Rattle.speldervacht.specs.declared.raw.RawDecrease.{RawDecrease}
 use Rattle.speldervacht.specs.declared.raw.RawFlash.{RawFlash}

@@ -5,6 +5,7 @@ use mathlib.Core.Option.{Option, Option·getD}
 use lib.Dec.{leb}
 use lib.ListN.{length}
 use Rattle.settings.specs.declared.Settings.{Settings}
+use Rattle.settings_words.specs.Words.{flagWord}
 use Rattle.rules.specs.Answers.{answerNumber, answerField, answerOrders}
 use Rattle.rules.specs.Cache.{fresh}
 use Rattle.rules.specs.Entries.{if_then_else_}
@@ -14,7 +15,7 @@ use Rattle.rules.specs.declared.answer.Answer.the-variants.{Refused}
 use Rattle.rules.specs.declared.answer.Refusal.the-variants as refusal
 use Rattle.rules.specs.declared.request.Mode.{Mode}
 use Rattle.rules.specs.declared.request.Mode.the-variants.{Alone}
-use Rattle.layout.specs.Layout.{flagWord, layoutWords}
+use Rattle.layout.specs.Layout.{layoutWords}
 use Rattle.judge.specs.Verdict.{judgeWords}
 use Rattle.cache.specs.Tables.{Left, left, stepWords, Opened, openedWith, reportWords}
 use Rattle.cache.specs.declared.reporting.Reported.{Reported}

@@ -4,7 +4,7 @@ ghost use Rattle.speldervacht.specs.Numbers.{figureNumbers};
 use crate::answer::answer_of;
 use crate::raw::RawFigures;
 use cache::Reported;
-use layout::word::flag_word;
+use settings_words::flag_word;
 
 pub fn figures_of(x: Reported) -> RawFigures
     ensures { λ r. ⌜ r ≡ figureNumbers x ⌝ }

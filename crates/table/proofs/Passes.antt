@@ -10,6 +10,8 @@ use lib.Dec.{eqb}
 use lib.ListN.{length, getD, drop, drop-of-length-le}
 use lib.Seq.{drop-cons}
 use borrow.Author.Tests.{ne-eqb}
+use Rattle.settings_words.proofs.ReadBack.{flag-back}
+use Rattle.settings_words.specs.Words.{flagOf}
 use Rattle.rules.specs.declared.entry.Entry.{Entry}
 use Rattle.rules.specs.declared.entry.Hold.the-variants.{Unheld, Readers, Writer}
 use Rattle.rules.specs.declared.entry.Hold.{Hold}
@@ -22,10 +24,10 @@ use Rattle.rules.specs.Limits.{mostSize}
 use Rattle.rules.specs.Room.{cleanBytes}
 use Rattle.rules.specs.Rows.{get, someEntry, total, cleanAt, sizeAt}
 use Rattle.rules.proofs.Tests.{choose}
-use Rattle.layout.specs.Layout.{flagOf, holdWord}
+use Rattle.layout.specs.Layout.{holdWord}
 use Rattle.layout.specs.Picture.{rowWords}
 use Rattle.layout.specs.Places.{lowestFree}
-use Rattle.layout.proofs.ReadBack.{RowAllowed, RowsAllowed, flag-back}
+use Rattle.layout.proofs.ReadBack.{RowAllowed, RowsAllowed}
 
 -- ---- over the rows
 

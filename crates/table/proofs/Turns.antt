@@ -8,6 +8,7 @@ use native.Mathlib.Omega.{arith}
 use lib.Dec.{eqb}
 use lib.ListN.{length, getD, drop}
 use borrow.Author.Tests.{eq-eqb, ne-eqb, not-true, not-false}
+use Rattle.settings_words.specs.Words.{flagOf}
 use Rattle.rules.specs.declared.entry.Entry.{Entry}
 use Rattle.rules.specs.declared.entry.Row.the-variants.{Free}
 use Rattle.rules.specs.Addresses.{someAddress}
@@ -16,7 +17,7 @@ use Rattle.rules.specs.Limits.{mostSize, mostRows}
 use Rattle.rules.specs.Room.{cleanBytes}
 use Rattle.rules.specs.Rows.{get, passes, someEntry, total, heldBytes, cleanAt, dirtyAt}
 use Rattle.rules.proofs.Moves.{clean-of}
-use Rattle.layout.specs.Layout.{rowAt, flagOf}
+use Rattle.layout.specs.Layout.{rowAt}
 use Rattle.layout.specs.Picture.{cacheIn}
 use Rattle.layout.specs.Places.{lowestFree}
 use Rattle.layout.proofs.Held.{all-allowed, row-allowed, recency-get}
