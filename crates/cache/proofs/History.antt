@@ -2,7 +2,7 @@
 use Prim.Native.Nat.{ℕ, _+_}
 use mathlib.Core.Bool.{true}
 use mathlib.Core.List.{List, [], _∷_, map}
-use mathlib.Core.Path.{_≡_, refl, ap, _∙_}
+use mathlib.Core.Path.{_≡_, refl, sym, ap, subst, _∙_}
 use lib.ListN.{length}
 use Rattle.settings.specs.declared.Settings.{Settings}
 use Rattle.settings_words.specs.FloatsFit.{FloatsFit}
@@ -13,16 +13,17 @@ use Rattle.rules.specs.Cache.{Cache, fresh}
 use Rattle.rules.specs.Hosts.{accepted, asking}
 use Rattle.rules.specs.History.{evictedBytes, next, Past, past, plus}
 use Rattle.rules.specs.Refusals.{Call}
+use Rattle.rules.specs.Reports.{reportOf}
 use Rattle.rules.specs.Requests.{Outcome, effect}
 use Rattle.rules.specs.declared.answer.Answer.the-variants.{Accepted}
 use Rattle.rules.specs.declared.request.Mode.{Mode}
 use Rattle.rules.specs.declared.request.Request.{Request}
 use Rattle.layout.specs.Picture.{cacheIn}
 use Rattle.judge.specs.Verdict.{judgeWords}
-use Rattle.cache.specs.History.{TableCall, evictedIn, TablePast, addedTo, tablePast, TableBalanced}
+use Rattle.cache.specs.History.{TableCall, evictedIn, TablePast, addedTo, tablePast, Balances, TableBalanced, ReportBalanced}
 use Rattle.cache.specs.Hosts.{accepts}
 use Rattle.cache.specs.Tables.{Left, carriedOut, stepWords, openWords}
-use Rattle.cache.proofs.Pictured.{Pictures, ruled, carried, accepts-as, pictures-after, pictures-fresh}
+use Rattle.cache.proofs.Pictured.{Pictures, ruled, carried, accepts-as, pictures-after, pictures-fresh, reported}
 use Rattle.cache.proofs.Read.{evicted-back}
 
 -- ---- one request
@@ -86,3 +87,16 @@ pub tables-balanced : (ws : List ℕ) (n : ℕ) (m : Mode) (t : ℕ) (s : Settin
 tables-balanced ws n m t s f h calls =
     let k = same-past (openWords ws n m t s .table) (fresh n m t s) calls (pictures-fresh ws n m t s f h) in
     rw (k .pictures .cache, k .brought, k .grown, k .evicted, k .discarded, k .shrunk) (balanced n m t s (map callOf calls))
+
+-- and the held bytes of the report balance too
+pub reports-balanced : (ws : List ℕ) (n : ℕ) (m : Mode) (t : ℕ) (s : Settings) → FloatsFit s → openWords ws n m t s .answer ≡ Accepted 0
+    → (calls : List TableCall) → ReportBalanced (tablePast (openWords ws n m t s .table) calls)
+unfolding reportOf
+reports-balanced ws n m t s f h calls =
+    let p = tablePast (openWords ws n m t s .table) calls in
+    let k = same-past (openWords ws n m t s .table) (fresh n m t s) calls (pictures-fresh ws n m t s f h) in
+    let x = reported (p .table) (k .pictures .passes) in
+    record {
+      answer = ap (λ r. r .answer) x;
+      held = subst (λ (b : ℕ). Balances b p) (sym (ap (λ r. r .report .held) x)) (tables-balanced ws n m t s f h calls);
+    }

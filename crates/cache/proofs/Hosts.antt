@@ -11,6 +11,7 @@ use Rattle.rules.proofs.Tests.{split}
 use Rattle.rules.specs.Cache.{Cache}
 use Rattle.rules.specs.Hosts.{Run, Pending, settled, sent, accepted, asking}
 use Rattle.rules.specs.Ledger.{Ledger, Shared, Sends, sentBy, ledgerOf, dirtySize}
+use Rattle.rules.specs.Reports.{reportOf}
 use Rattle.rules.specs.Requests.{Outcome, effect}
 use Rattle.rules.specs.Rows.{get}
 use Rattle.rules.specs.declared.request.Mode.the-variants.{Lead, Standby}
@@ -19,9 +20,9 @@ use Rattle.rules.specs.declared.request.Request.the-variants.{Take}
 use Rattle.layout.specs.Layout.{rowAt}
 use Rattle.layout.specs.Picture.{entryOf, rowsOf, cacheIn}
 use Rattle.judge.specs.Verdict.{judgeWords}
-use Rattle.cache.specs.Hosts.{accepts, listIn, FloatsOf, TableRun, dirtyIn, ledgerIn, TablesAgree}
+use Rattle.cache.specs.Hosts.{accepts, listIn, FloatsOf, TableRun, dirtyIn, ledgerIn, TablesAgree, ReportsAgree}
 use Rattle.cache.specs.Tables.{carriedOut, stepWords}
-use Rattle.cache.proofs.Pictured.{Pictures, ruled, carried, accepts-as, pictures-after, pictures-refused, open-allowed, pictures-fresh}
+use Rattle.cache.proofs.Pictured.{Pictures, ruled, carried, accepts-as, pictures-after, pictures-refused, open-allowed, pictures-fresh, reported}
 use Rattle.cache.proofs.Read.{sends-writes, writes-back}
 
 -- ---- the list sent
@@ -122,6 +123,21 @@ unfolding cacheIn
 tables-agree {a = a} {b} run =
     let d = demand3 (follows run .run) in
     record { lead = ledger-in a ∙ d .lead; standby = ledger-in b ∙ d .standby; due = d .due }
+
+-- the reports say the same
+pub reports-agree : {t : ℕ} {a b : List ℕ} {l : Ledger} → TableRun t a b l settled → ReportsAgree a b
+unfolding reportOf
+reports-agree {a = a} {b} run =
+    let k = follows run in
+    let d = demand3 (k .run) in
+    let x = reported a (k .lead) in
+    let y = reported b (k .standby) in
+    record {
+      lead = ap (λ r. r .answer) x;
+      standby = ap (λ r. r .answer) y;
+      count = ap (λ r. r .report .count) x ∙ ap (λ l. l .count) (d .lead ∙ sym (d .standby)) ∙ sym (ap (λ r. r .report .count) y);
+      due = ap (λ r. r .report .due) x ∙ d .due ∙ sym (ap (λ r. r .report .due) y);
+    }
 
 -- and the standby never refuses a list
 pub takes-list : {t : ℕ} {a b : List ℕ} {l : Ledger} {list : List ℕ} → TableRun t a b l (sent list) → (os : List ℕ) → accepts (stepWords b os list Take) ≡ true

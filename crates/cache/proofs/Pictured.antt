@@ -16,6 +16,7 @@ use Rattle.rules.specs.Cache.{Cache, fresh}
 use Rattle.rules.specs.Hosts.{accepted, asking}
 use Rattle.rules.specs.Opening.{refusalOfOpening}
 use Rattle.rules.specs.Limits.{mostRows}
+use Rattle.rules.specs.Reports.{reportOf}
 use Rattle.rules.specs.Requests.{Outcome, step}
 use Rattle.rules.specs.declared.answer.Answer.the-variants.{Accepted, Refused}
 use Rattle.rules.specs.declared.answer.Answer.{Answer}
@@ -28,7 +29,7 @@ use Rattle.layout.specs.Picture.{encode, cacheIn}
 use Rattle.judge.proofs.Verdicts.{sound, complete, good}
 use Rattle.judge.specs.Verdict.{judgeWords}
 use Rattle.cache.specs.Hosts.{accepts, FloatsOf}
-use Rattle.cache.specs.Tables.{carriedOut, stepWords, openedWith, openWords}
+use Rattle.cache.specs.Tables.{carriedOut, stepWords, openedWith, openWords, reportWords}
 use Rattle.cache.proofs.Settled.{step-floats}
 
 -- the words pass, and picture the cache
@@ -108,3 +109,9 @@ module _ (ws : List ℕ) (n : ℕ) (m : Mode) (t : ℕ) (s : Settings) (f : Floa
   unfolding openWords
   pictures-fresh =
       rw not-refused (pictured (fresh n m t s) (drop (layoutWords n) ws) (fresh-allowed n m t s open-allowed) f)
+
+-- ---- the report
+
+pub reported : (ws : List ℕ) → judgeWords ws ≡ true → reportWords ws ≡ record { answer = Accepted 0; report = reportOf (cacheIn ws) }
+unfolding reportWords
+reported ws v = rw v

@@ -4,6 +4,7 @@ use mathlib.Core.Path.{_≡_}
 use mathlib.Core.List.{List, [], _∷_}
 use lib.Dec.{eqb}
 use lib.ListN.{getD, drop}
+use Rattle.rules.specs.declared.answer.Answer.the-variants.{Accepted}
 use Rattle.rules.specs.declared.order.Kind.the-variants.{Evict}
 use Rattle.rules.specs.declared.request.Request.{Request}
 use Rattle.rules.specs.Answers.{answerOrders}
@@ -13,7 +14,7 @@ use Rattle.rules.specs.History.{broughtIn, newSize, oldSize, plus, thrownAway}
 use Rattle.layout.specs.Layout.{kindWord}
 use Rattle.layout.specs.Picture.{cacheIn}
 use Rattle.cache.specs.Hosts.{accepts, FloatsOf}
-use Rattle.cache.specs.Tables.{Left, stepWords}
+use Rattle.cache.specs.Tables.{Left, stepWords, reportWords}
 
 -- A request with the order slice and the list that are lent with it.
 pub record TableCall : Type 0 where
@@ -56,6 +57,15 @@ tablePast table (call ∷ earlier) =
     let p = tablePast table earlier in
     addedTo p (call .request) (stepWords (p .table) (call .orders) (call .list) (call .request))
 
--- Held bytes equal bytes brought in and grown, less bytes evicted, discarded and shrunk.
+-- So many held bytes balance: they equal bytes brought in and grown, less bytes evicted, discarded and shrunk.
+abbrev pub Balances : ℕ → TablePast → Type 0
+Balances n p = n + (p .evicted + p .discarded + p .shrunk) ≡ p .brought + p .grown
+
+-- The held bytes of the cache that the table pictures balance.
 abbrev pub TableBalanced : TablePast → Type 0
-TableBalanced p = held (cacheIn (p .table)) + (p .evicted + p .discarded + p .shrunk) ≡ p .brought + p .grown
+TableBalanced p = Balances (held (cacheIn (p .table))) p
+
+-- The table's report is given, and its held bytes balance.
+pub record ReportBalanced (p : TablePast) : Type 0 where
+  pub answer : reportWords (p .table) .answer ≡ Accepted 0
+  pub held : Balances (reportWords (p .table) .report .held) p

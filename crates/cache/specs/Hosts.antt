@@ -106,3 +106,10 @@ pub record TablesAgree (a b : List ℕ) (l : Ledger) : Type 0 where
   pub lead : ledgerIn a ≡ l
   pub standby : ledgerIn b ≡ l
   pub due : dueIn a ≡ dueIn b
+
+-- Both reports are given, and they have the same byte count and say alike whether a list is due.
+pub record ReportsAgree (a b : List ℕ) : Type 0 where
+  pub lead : reportWords a .answer ≡ Accepted 0
+  pub standby : reportWords b .answer ≡ Accepted 0
+  pub count : reportWords a .report .count ≡ reportWords b .report .count
+  pub due : reportWords a .report .due ≡ reportWords b .report .due
