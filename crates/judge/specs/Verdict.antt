@@ -18,6 +18,7 @@ use Rattle.rules.specs.Rows.{get, passes, isHere}
 use Rattle.layout.specs.Layout.{layoutWords}
 use Rattle.layout.specs.Picture.{encode, cacheIn}
 
+-- `&&`, but shut: both sides can be read off it.
 infixr 30 _and_
 unfoldable pub _and_ : Bool → Bool → Bool
 true and b = b
