@@ -1,7 +1,7 @@
 /* Worked cases and bad input through the C interface. Also compiles as C++. */
+#include "expect.h"
 #include "speldervacht.h"
 
-#include <stdio.h>
 #include <string.h>
 
 #define ROWS 4
@@ -10,14 +10,6 @@
 
 static uint64_t table[TABLE];
 static uint64_t orders[ORDERS];
-static int failures;
-
-static void expect(int holds, const char *what) {
-    if (!holds) {
-        printf("failed: %s\n", what);
-        failures++;
-    }
-}
 
 static speldervacht_answer ask(uint64_t kind, uint64_t address, uint64_t size) {
     return speldervacht_step(table, TABLE, orders, ORDERS, NULL, 0, speldervacht_request_of(kind, address, size));
@@ -107,8 +99,5 @@ int main(void) {
     three_inserts();
     refusals();
     lists();
-    if (failures == 0) {
-        printf("all cases hold\n");
-    }
-    return failures != 0;
+    return outcome("all cases hold");
 }

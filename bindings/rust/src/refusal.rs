@@ -1,6 +1,6 @@
 //! Why a request was refused.
 
-use crate::{order_words, raw, Mode, Request, HEADER_WORDS, ROW_WORDS};
+use crate::{order_words, raw, Mode, Request, HEADER_WORDS, LARGEST_ENTRY, LARGEST_THRESHOLD, ROW_WORDS};
 use std::fmt;
 
 /// A hold on an entry.
@@ -159,7 +159,7 @@ impl fmt::Display for Refusal {
             }
             Refusal::BadAddress => write!(f, "all ones is no address"),
             Refusal::BadSize { size } => {
-                write!(f, "a size of {size} is not within 1 to 134217728 bytes")
+                write!(f, "a size of {size} is not within 1 to {LARGEST_ENTRY} bytes")
             }
             Refusal::WrongMode { mode } => {
                 let mode = match mode {
@@ -170,7 +170,7 @@ impl fmt::Display for Refusal {
                 write!(f, "the request is not for a cache that is {mode}")
             }
             Refusal::BadThreshold { threshold } => {
-                write!(f, "a threshold of {threshold} is not within 1 to 1073741824 bytes")
+                write!(f, "a threshold of {threshold} is not within 1 to {LARGEST_THRESHOLD} bytes")
             }
             Refusal::NotInCache { address } => write!(f, "the cache has no entry at {address}"),
             Refusal::InCache { address } => write!(f, "the cache has an entry at {address}"),

@@ -2,7 +2,7 @@
 
 use speldervacht::{
     open, order_words, report, step, table_words, Decrease, Flash, Hold, Increase, Mode, Refusal, Request, Settings,
-    DEFAULT_THRESHOLD, LARGEST_ENTRY, LARGEST_THRESHOLD, NO_ADDRESS,
+    COUNT_STOP, DEFAULT_THRESHOLD, LARGEST_ENTRY, LARGEST_THRESHOLD, MOST_ROWS, NO_ADDRESS,
 };
 
 struct Cache {
@@ -276,8 +276,8 @@ fn short_slices_are_refused() {
 #[test]
 fn opening_judges_rows_then_threshold_then_settings() {
     let bad = Settings { initial_size: None, ..small() };
-    let mut table = vec![7; table_words(4_097)];
-    for rows in [0, 4_097, usize::MAX, usize::MAX / 8] {
+    let mut table = vec![7; table_words(MOST_ROWS + 1)];
+    for rows in [0, MOST_ROWS + 1, usize::MAX, usize::MAX / 8] {
         assert_eq!(open(&mut table, rows, Mode::Lead, 0, &bad), Err(Refusal::BadTable));
     }
     for threshold in [0, LARGEST_THRESHOLD + 1, u64::MAX] {
@@ -285,8 +285,9 @@ fn opening_judges_rows_then_threshold_then_settings() {
     }
     assert_eq!(open(&mut table, 4, Mode::Lead, 1, &bad), Err(Refusal::BadSetting { field: 2 }));
     assert!(table.iter().all(|word| *word == 7));
-    open(&mut table, 4_096, Mode::Lead, LARGEST_THRESHOLD, &Settings::default()).unwrap();
-    assert!(table[table_words(4_096)..].iter().all(|word| *word == 7));
+    open(&mut table, 1, Mode::Lead, 1, &Settings::default()).unwrap();
+    open(&mut table, MOST_ROWS, Mode::Lead, LARGEST_THRESHOLD, &Settings::default()).unwrap();
+    assert!(table[table_words(MOST_ROWS)..].iter().all(|word| *word == 7));
 }
 
 #[test]
@@ -316,7 +317,60 @@ fn bad_settings_are_named() {
         let refusal = step(&mut cache.table, &mut cache.orders, &Request::Configure { settings }).unwrap_err();
         assert_eq!(refusal, Refusal::BadSetting { field }, "{settings:?}");
     }
-    assert_eq!(cache.ask(Request::Configure { settings: Settings { initial_size: None, ..good } }), NONE);
+    let good = Settings { initial_size: None, ..good };
+    let at_limits = [
+        good,
+        Settings { maximum_size: 134_217_728, minimum_size: 1_024, ..good },
+        Settings { epoch_length: 100, ..good },
+        Settings { epoch_length: 1_000_000, ..good },
+        Settings { increase_cap: Some(134_217_728), decrease_cap: Some(134_217_728), ..good },
+    ];
+    for settings in at_limits {
+        assert_eq!(cache.ask(Request::Configure { settings }), NONE, "{settings:?}");
+    }
+}
+
+#[test]
+fn entries_are_accepted_up_to_their_limits() {
+    let mut cache = Cache::small(4, Mode::Alone);
+    assert_eq!(cache.insert(1, LARGEST_ENTRY + 1), Err(4));
+    assert_eq!(cache.insert(1, LARGEST_ENTRY), NONE);
+    assert_eq!(cache.insert(NO_ADDRESS, 1), Err(3));
+    assert!(cache.insert(NO_ADDRESS - 1, 1).is_ok());
+}
+
+#[test]
+fn the_byte_count_stops() {
+    let mut cache = Cache::small(1, Mode::Alone);
+    let mut count_after = |size| {
+        cache.insert(1, size).unwrap();
+        cache.ask(Request::Discard { address: 1 }).unwrap();
+        report(&cache.table).unwrap().count
+    };
+    let mut counted = 0;
+    while counted + LARGEST_ENTRY < COUNT_STOP {
+        counted += LARGEST_ENTRY;
+        assert_eq!(count_after(LARGEST_ENTRY), counted);
+    }
+    assert_eq!(count_after(COUNT_STOP - counted - 1), COUNT_STOP - 1);
+    assert_eq!(count_after(1), COUNT_STOP);
+    assert_eq!(count_after(1), COUNT_STOP);
+}
+
+#[test]
+fn the_idle_count_stops_at_the_last_total() {
+    let increase = Increase::Threshold { lower: 0.0, multiplier: 2.0 };
+    let settings = Settings { epoch_length: 100, increase, ..small() };
+    let mut cache = Cache::open(2, Mode::Alone, DEFAULT_THRESHOLD, &settings);
+    cache.insert(1, 7).unwrap();
+    for epoch in 0..13 {
+        let totals = report(&cache.table).unwrap().totals;
+        assert!(totals[epoch.min(totals.len() - 1)] >= 7, "{totals:?} after {epoch} epochs");
+        for _ in 0..100 {
+            cache.read(2, 1).unwrap();
+            cache.release(2).unwrap();
+        }
+    }
 }
 
 #[test]

@@ -1,0 +1,157 @@
+/* Each limit in the header: what is at it is accepted, what is one past it refused. Also compiles as
+ * C++. */
+#include "expect.h"
+#include "speldervacht.h"
+
+#define MORE_ROWS (SPELDERVACHT_MOST_ROWS + 1)
+#define ROWS 2
+#define TABLE SPELDERVACHT_TABLE_WORDS(ROWS)
+#define ORDERS SPELDERVACHT_ORDER_WORDS(ROWS)
+
+static uint64_t table[SPELDERVACHT_TABLE_WORDS(MORE_ROWS)];
+static uint64_t orders[SPELDERVACHT_ORDER_WORDS(SPELDERVACHT_MOST_ROWS)];
+
+static uint64_t opened(uint64_t rows, uint64_t threshold) {
+    return speldervacht_open(table, SPELDERVACHT_TABLE_WORDS(rows), rows, SPELDERVACHT_ALONE, threshold,
+                             speldervacht_default_settings())
+        .number;
+}
+
+static uint64_t ask(uint64_t kind, uint64_t address, uint64_t size) {
+    return speldervacht_step(table, TABLE, orders, ORDERS, NULL, 0, speldervacht_request_of(kind, address, size))
+        .number;
+}
+
+static void open_fresh(void) {
+    expect(opened(ROWS, SPELDERVACHT_DEFAULT_THRESHOLD) == SPELDERVACHT_ACCEPTED, "opening");
+}
+
+/* The bad field of the settings at configuring, or 0 if they are accepted. */
+static uint64_t bad_field(speldervacht_settings settings) {
+    speldervacht_request configure = speldervacht_request_of(SPELDERVACHT_CONFIGURE, 0, 0);
+    configure.settings = settings;
+    return speldervacht_step(table, TABLE, orders, ORDERS, NULL, 0, configure).field;
+}
+
+static void rows_and_words(void) {
+    speldervacht_settings settings = speldervacht_default_settings();
+    speldervacht_request insert = speldervacht_request_of(SPELDERVACHT_INSERT, 1, 1);
+    const uint64_t rows = SPELDERVACHT_MOST_ROWS;
+    const size_t words = SPELDERVACHT_TABLE_WORDS(rows), order_words = SPELDERVACHT_ORDER_WORDS(rows);
+    expect(opened(0, 1) == SPELDERVACHT_BAD_TABLE, "no rows");
+    expect(opened(1, 1) == SPELDERVACHT_ACCEPTED, "one row");
+    expect(opened(MORE_ROWS, 1) == SPELDERVACHT_BAD_TABLE, "more than the most rows");
+    expect(speldervacht_open(table, words - 1, rows, SPELDERVACHT_ALONE, 1, settings).number ==
+               SPELDERVACHT_BAD_TABLE,
+           "a table word too few");
+    expect(opened(rows, 1) == SPELDERVACHT_ACCEPTED, "the most rows");
+    expect(speldervacht_step(table, words, orders, order_words - 1, NULL, 0, insert).number ==
+               SPELDERVACHT_FEW_ORDER_WORDS,
+           "an order word too few");
+    expect(speldervacht_step(table, words, orders, order_words, NULL, 0, insert).number == SPELDERVACHT_ACCEPTED,
+           "order words enough");
+}
+
+static void thresholds(void) {
+    expect(opened(ROWS, 0) == SPELDERVACHT_BAD_MODE, "a threshold of 0");
+    expect(opened(ROWS, 1) == SPELDERVACHT_ACCEPTED, "a threshold of 1");
+    expect(opened(ROWS, SPELDERVACHT_LARGEST_THRESHOLD) == SPELDERVACHT_ACCEPTED, "the largest threshold");
+    expect(opened(ROWS, SPELDERVACHT_LARGEST_THRESHOLD + 1) == SPELDERVACHT_BAD_MODE, "above the largest threshold");
+}
+
+static void entries(void) {
+    open_fresh();
+    expect(ask(SPELDERVACHT_INSERT, 1, 0) == SPELDERVACHT_BAD_SIZE, "an entry of no bytes");
+    expect(ask(SPELDERVACHT_INSERT, 1, 1) == SPELDERVACHT_ACCEPTED, "an entry of one byte");
+    expect(ask(SPELDERVACHT_INSERT, 2, SPELDERVACHT_LARGEST_ENTRY + 1) == SPELDERVACHT_BAD_SIZE,
+           "above the largest entry");
+    expect(ask(SPELDERVACHT_INSERT, 2, SPELDERVACHT_LARGEST_ENTRY) == SPELDERVACHT_ACCEPTED, "the largest entry");
+    expect(ask(SPELDERVACHT_INSERT, SPELDERVACHT_NO_ADDRESS, 1) == SPELDERVACHT_BAD_ADDRESS, "no address");
+    expect(ask(SPELDERVACHT_INSERT, SPELDERVACHT_NO_ADDRESS - 1, 1) == SPELDERVACHT_ACCEPTED, "the last address");
+}
+
+static void readers(void) {
+    open_fresh();
+    for (uint64_t reader = 1; reader <= SPELDERVACHT_MOST_READERS; reader++) {
+        expect(ask(SPELDERVACHT_PROTECT_FOR_READING, 1, 1) == SPELDERVACHT_ACCEPTED, "a reader");
+    }
+    expect(ask(SPELDERVACHT_PROTECT_FOR_READING, 1, 1) == SPELDERVACHT_HELD, "a reader too many");
+}
+
+/* One more insert, and what the byte count is then. */
+static uint64_t count_after(uint64_t size) {
+    expect(ask(SPELDERVACHT_INSERT, 1, size) == SPELDERVACHT_ACCEPTED, "an insert");
+    expect(ask(SPELDERVACHT_DISCARD, 1, 0) == SPELDERVACHT_ACCEPTED, "a discard");
+    return speldervacht_report(table, TABLE).count;
+}
+
+static void count(void) {
+    uint64_t counted = 0;
+    open_fresh();
+    while (counted + SPELDERVACHT_LARGEST_ENTRY < SPELDERVACHT_COUNT_STOP) {
+        counted += SPELDERVACHT_LARGEST_ENTRY;
+        expect(count_after(SPELDERVACHT_LARGEST_ENTRY) == counted, "the byte count below its stop");
+    }
+    expect(count_after(SPELDERVACHT_COUNT_STOP - counted - 1) == SPELDERVACHT_COUNT_STOP - 1, "one below the stop");
+    expect(count_after(1) == SPELDERVACHT_COUNT_STOP, "at the stop");
+    expect(count_after(1) == SPELDERVACHT_COUNT_STOP, "no further");
+}
+
+/* An entry that nobody uses goes through all idle counts, an epoch each, and stays at the last. */
+static void idle_counts(void) {
+    speldervacht_settings settings = speldervacht_default_settings();
+    const uint64_t last = SPELDERVACHT_IDLE_COUNTS - 1;
+    settings.decrease_kind = SPELDERVACHT_DECREASE_OFF;
+    settings.epoch = SPELDERVACHT_SHORTEST_EPOCH;
+    open_fresh();
+    expect(bad_field(settings) == 0, "short epochs");
+    expect(ask(SPELDERVACHT_INSERT, 1, 7) == SPELDERVACHT_ACCEPTED, "an entry");
+    for (uint64_t epoch = 0; epoch <= last + 1; epoch++) {
+        speldervacht_figures figures = speldervacht_report(table, TABLE);
+        expect(figures.totals[epoch < last ? epoch : last] >= 7, "the entry's idle count");
+        for (uint64_t access = 0; access < settings.epoch; access++) {
+            expect(ask(SPELDERVACHT_PROTECT_FOR_READING, 2, 1) == SPELDERVACHT_ACCEPTED, "an access");
+            expect(ask(SPELDERVACHT_RELEASE_UNCHANGED, 2, 0) == SPELDERVACHT_ACCEPTED, "its release");
+        }
+    }
+}
+
+static void settings_limits(void) {
+    speldervacht_settings settings;
+    open_fresh();
+#define EXPECT_FIELD(field, name, value, what)                                                                         \
+    settings = speldervacht_default_settings();                                                                        \
+    settings.preset = 0;                                                                                               \
+    settings.name = value;                                                                                             \
+    expect(bad_field(settings) == field, what)
+    EXPECT_FIELD(0, largest, SPELDERVACHT_LARGEST_CACHE, "the largest cache");
+    EXPECT_FIELD(5, largest, SPELDERVACHT_LARGEST_CACHE + 1, "above the largest cache");
+    EXPECT_FIELD(0, smallest, SPELDERVACHT_SMALLEST_CACHE, "the smallest cache");
+    EXPECT_FIELD(6, smallest, SPELDERVACHT_SMALLEST_CACHE - 1, "below the smallest cache");
+    EXPECT_FIELD(0, epoch, SPELDERVACHT_SHORTEST_EPOCH, "the shortest epoch");
+    EXPECT_FIELD(7, epoch, SPELDERVACHT_SHORTEST_EPOCH - 1, "below the shortest epoch");
+    EXPECT_FIELD(0, epoch, SPELDERVACHT_LONGEST_EPOCH, "the longest epoch");
+    EXPECT_FIELD(7, epoch, SPELDERVACHT_LONGEST_EPOCH + 1, "above the longest epoch");
+    EXPECT_FIELD(0, increment_bytes, SPELDERVACHT_LARGEST_CACHE, "the largest cap on an increase");
+    EXPECT_FIELD(9, increment_bytes, SPELDERVACHT_LARGEST_CACHE + 1, "above the largest cap on an increase");
+    EXPECT_FIELD(0, decrement_bytes, SPELDERVACHT_LARGEST_CACHE, "the largest cap on a decrease");
+    EXPECT_FIELD(12, decrement_bytes, SPELDERVACHT_LARGEST_CACHE + 1, "above the largest cap on a decrease");
+#undef EXPECT_FIELD
+    settings = speldervacht_default_settings();
+    settings.initial = settings.largest = settings.smallest = SPELDERVACHT_SMALLEST_CACHE;
+    expect(bad_field(settings) == 0, "the smallest cache and no larger");
+    settings.preset = 0;
+    settings.largest--;
+    expect(bad_field(settings) == 5, "a maximum size below the smallest cache");
+}
+
+int main(void) {
+    rows_and_words();
+    thresholds();
+    entries();
+    readers();
+    count();
+    idle_counts();
+    settings_limits();
+    return outcome("all limits hold");
+}
