@@ -159,6 +159,15 @@ fn an_entry_used_in_one_epoch_goes_at_the_end_of_the_next() {
 }
 
 #[test]
+fn the_default_settings_are_those_of_the_crate() {
+    let mine = picture(&open(1, Mode::Alone, speldervacht::DEFAULT_THRESHOLD, Settings::default_values()));
+    let mut table = vec![0; table_words(1)];
+    let settings = speldervacht::Settings::default();
+    speldervacht::open(&mut table, 1, speldervacht::Mode::Alone, speldervacht::DEFAULT_THRESHOLD, &settings).unwrap();
+    assert_eq!(table, mine);
+}
+
+#[test]
 fn the_judge_finds_what_was_pictured() {
     let mut r = Random::new(5);
     for _ in 0..3_000 {
