@@ -2,10 +2,11 @@
 //!
 //!     second [SEED [REQUESTS]]
 //!
-//! A difference is printed with the shortest run found that shows it, and ends the program with 1.
+//! A difference is printed with the shortest run found that shows it, and ends the program with 1. So
+//! does a place that no run reached, unless fewer requests are asked for than by default.
 
 use second::cache::Difference;
-use second::pair::{self, Pair};
+use second::pair::{self, Aside, Pair};
 use second::random::Random;
 use second::run::{self, Event, Run};
 use second::shrink::shrink;
@@ -48,6 +49,17 @@ fn shortest_run(mut run: Run, first: Difference) -> (Run, Difference) {
 fn shortest_pair(mut pair: Pair, first: Difference) -> (Pair, Difference) {
     let base = pair.clone();
     pair.events = shrink(pair.events, |events| Pair { events: events.to_vec(), ..base.clone() }.replay().is_some());
+    for i in 0..pair.events.len() {
+        if let Some(between) = pair.events[i].between().cloned() {
+            let base = pair.clone();
+            let with = |asides: &[Aside]| {
+                let mut pair = base.clone();
+                *pair.events[i].between().unwrap() = asides.to_vec();
+                pair
+            };
+            pair = with(&shrink(between, |asides| with(asides).replay().is_some()));
+        }
+    }
     let difference = pair.replay().map_or(first, |(_, difference)| difference);
     (pair, difference)
 }
@@ -110,5 +122,10 @@ fn main() -> ExitCode {
     );
     tally.print();
     println!("\nno difference");
+    let missed = tally.never_reached();
+    if requests >= REQUESTS && !missed.is_empty() {
+        println!("but the runs never reached: {}", missed.join("; "));
+        return ExitCode::FAILURE;
+    }
     ExitCode::SUCCESS
 }

@@ -4,35 +4,62 @@ use crate::boundary::{request_of, Asked, SettingsWords};
 use crate::cache::{Cache, Difference};
 use crate::ledger::Ledger;
 use crate::library::{self, Answer};
-use crate::model::{order_words, Hold, Model, Order, COUNT_STOP, THRESHOLD_LIMIT};
+use crate::model::{order_words, Entry, Hold, Model, Order, Refusal, ALL_ONES, COUNT_STOP, THRESHOLD_LIMIT};
 use crate::random::Random;
+use crate::reached::PairPlace;
 use crate::requests::{self, Phase, Scale};
 use crate::run::{asked_text, settings_text};
 use crate::table::{table_words, HEADER, ROW};
 use crate::tally::Tally;
-use std::collections::BTreeMap;
+use std::collections::{BTreeMap, BTreeSet};
 
 const LEAD: usize = 0;
 const STANDBY: usize = 1;
 const NAMES: [&str; 2] = ["lead", "standby"];
 
 const INSERT: u64 = 1;
+const PROTECT_FOR_READING: u64 = 2;
 const PROTECT_FOR_WRITING: u64 = 3;
+const RELEASE_UNCHANGED: u64 = 4;
 const RELEASE_CHANGED: u64 = 5;
+const PIN: u64 = 6;
+const UNPIN: u64 = 7;
 const RESIZE: u64 = 8;
 const DISCARD: u64 = 9;
 const FLUSH: u64 = 10;
 const SYNC: u64 = 11;
 const TAKE: u64 = 12;
+const CONFIGURE: u64 = 13;
+
+/// A request of one host that the other does not hear of: a local one, or one that is refused.
+#[derive(Clone, Debug)]
+pub struct Aside {
+    host: usize,
+    asked: Asked,
+    list: Vec<u64>,
+    /// How many order words too few are lent.
+    short: usize,
+}
 
 #[derive(Clone, Debug)]
 pub enum Event {
-    /// An insert, a changed release, a resize or a discard, the same for both.
-    Shared(Asked),
-    /// A request of one host, with so many order words short.
-    Local { host: usize, asked: Asked, short: usize },
-    /// A flush or a sync of the lead; the standby takes the list.
-    List(Asked),
+    /// An insert, a changed release, a resize or a discard, the same for both: the first host gets
+    /// it, then come requests of either, then the other gets it.
+    Shared { asked: Asked, first: usize, between: Vec<Aside> },
+    /// A flush or a sync of the lead, requests of either, and then the standby takes the list.
+    List { asked: Asked, between: Vec<Aside> },
+    /// A request at a settled point.
+    Aside(Aside),
+}
+
+impl Event {
+    /// The requests between its two halves.
+    pub fn between(&mut self) -> Option<&mut Vec<Aside>> {
+        match self {
+            Event::Shared { between, .. } | Event::List { between, .. } => Some(between),
+            Event::Aside(_) => None,
+        }
+    }
 }
 
 #[derive(Clone, Debug)]
@@ -43,10 +70,59 @@ pub struct Pair {
     pub events: Vec<Event>,
 }
 
+// ---- what a run may have
+
+/// The caches of both hosts, on which the model tries requests before they are made.
+type Models = [Model; 2];
+
+fn ask(m: &mut Model, asked: &Asked) -> Result<Vec<Order>, Refusal> {
+    m.step(&request_of(asked), &[], order_words(m.rows))
+}
+
+fn accepts(m: &Model, asked: &Asked) -> bool {
+    m.refusal(&request_of(asked), &[], order_words(m.rows)).is_none()
+}
+
+/// Makes the request if a run may have it at one host alone: local ones as they come, no change that
+/// both get, all others only where they are refused.
+fn hear(models: &mut Models, aside: &Aside) -> bool {
+    let m = &mut models[aside.host];
+    let (request, lent) = (request_of(&aside.asked), order_words(m.rows).saturating_sub(aside.short));
+    match aside.asked.kind {
+        PROTECT_FOR_READING | PROTECT_FOR_WRITING | RELEASE_UNCHANGED | PIN | UNPIN | CONFIGURE => {
+            let _ = m.step(&request, &aside.list, lent);
+            true
+        }
+        INSERT | RELEASE_CHANGED | RESIZE | DISCARD => false,
+        _ => m.refusal(&request, &aside.list, lent).is_some(),
+    }
+}
+
+/// The list that a lead's orders send.
+fn list_of(orders: &[Order]) -> Vec<u64> {
+    let address = |order: &Order| match order {
+        Order::Write { address, .. } => *address,
+        other => unreachable!("{other:?} from a flush or sync"),
+    };
+    orders.iter().map(address).collect()
+}
+
+// ---- playing
+
+/// When a request of one host is made.
+#[derive(Clone, Copy, PartialEq)]
+enum When {
+    Settled,
+    BetweenHalves,
+    BeforeTaking,
+}
+
 struct Hosts {
     caches: [Cache; 2],
     ledger: Ledger,
     threshold: u64,
+    /// The list that the standby took last.
+    taken: Vec<u64>,
 }
 
 impl Hosts {
@@ -58,13 +134,34 @@ impl Hosts {
             let mode = host as u64 + 1;
             cache.open(table_words(rows), rows as u64, mode, pair.threshold, &pair.settings[host], tally)?;
         }
-        let hosts = Hosts { caches, ledger: Ledger::default(), threshold: pair.threshold };
+        let hosts = Hosts { caches, ledger: Ledger::default(), threshold: pair.threshold, taken: Vec::new() };
         hosts.agree(tally)?;
         Ok(hosts)
     }
 
     fn model(&self, host: usize) -> &Model {
         self.caches[host].model.as_ref().unwrap()
+    }
+
+    fn models(&self) -> Models {
+        [LEAD, STANDBY].map(|host| self.model(host).clone())
+    }
+
+    /// Whether the run may go on with the event. No shared change is refused by one host alone.
+    fn allows(&self, event: &Event) -> bool {
+        let mut models = self.models();
+        match event {
+            Event::Shared { asked, first, between } => {
+                let by_first = ask(&mut models[*first], asked);
+                between.iter().all(|aside| hear(&mut models, aside))
+                    && accepts(&models[1 - first], asked) == by_first.is_ok()
+            }
+            Event::List { asked, between } => {
+                let _ = ask(&mut models[LEAD], asked);
+                between.iter().all(|aside| hear(&mut models, aside))
+            }
+            Event::Aside(aside) => hear(&mut models, aside),
+        }
     }
 
     fn step(
@@ -83,44 +180,86 @@ impl Hosts {
         })
     }
 
-    fn would_accept(&self, host: usize, asked: &Asked) -> bool {
-        let lent = self.caches[host].orders.len();
-        self.model(host).refusal(&request_of(asked), &[], lent).is_none()
+    fn aside(&mut self, aside: &Aside, when: When, tally: &mut Tally) -> Result<(), Difference> {
+        let Aside { host, asked, list, short } = aside;
+        let (answer, _) = self.step(*host, asked, list, *short, tally)?;
+        let mut mark = |place| tally.pairs.mark(place);
+        if answer.number == 0 {
+            mark(PairPlace::Local);
+            match (when, *host) {
+                (When::Settled, _) => {}
+                (When::BetweenHalves, LEAD) => mark(PairPlace::LeadBetween),
+                (When::BetweenHalves, _) => mark(PairPlace::StandbyBetween),
+                (When::BeforeTaking, LEAD) => mark(PairPlace::LeadBeforeTaking),
+                (When::BeforeTaking, _) => mark(PairPlace::StandbyBeforeTaking),
+            }
+            return Ok(());
+        }
+        mark(PairPlace::Refused);
+        match when {
+            When::Settled => {}
+            When::BetweenHalves => mark(PairPlace::RefusedBetween),
+            When::BeforeTaking => mark(PairPlace::RefusedBeforeTaking),
+        }
+        match (*host, asked.kind) {
+            (LEAD, FLUSH | SYNC) => mark(PairPlace::FlushRefusedByLead),
+            (LEAD, TAKE) => mark(PairPlace::TakeByLead),
+            (STANDBY, FLUSH) => mark(PairPlace::FlushByStandby),
+            (STANDBY, SYNC) => mark(PairPlace::SyncByStandby),
+            (STANDBY, TAKE) => {
+                mark(match list {
+                    list if list.contains(&ALL_ONES) => PairPlace::ListWithAllOnes,
+                    list if list.iter().collect::<BTreeSet<_>>().len() < list.len() => PairPlace::ListWithTwice,
+                    list if *list == self.taken => PairPlace::ListTakenBefore,
+                    _ => PairPlace::ListWithClean,
+                });
+                if when == When::BeforeTaking {
+                    mark(PairPlace::WrongListFirst);
+                }
+            }
+            _ => {}
+        }
+        Ok(())
     }
 
     fn happen(&mut self, event: &Event, tally: &mut Tally) -> Result<(), Difference> {
+        if !self.allows(event) {
+            tally.pairs.mark(PairPlace::SharedKeptBack);
+            return Ok(());
+        }
         match event {
-            Event::Shared(asked) => {
-                if self.would_accept(LEAD, asked) != self.would_accept(STANDBY, asked) {
-                    tally.shared_not_sent += 1;
-                    return Ok(());
+            Event::Shared { asked, first, between } => {
+                let was_ready = accepts(self.model(1 - first), asked);
+                let (answer, _) = self.step(*first, asked, &[], 0, tally)?;
+                for aside in between {
+                    self.aside(aside, When::BetweenHalves, tally)?;
                 }
-                let (by_lead, _) = self.step(LEAD, asked, &[], 0, tally)?;
-                self.step(STANDBY, asked, &[], 0, tally)?;
-                if by_lead.number != 0 {
-                    tally.shared_refused_by_both += 1;
-                } else {
-                    tally.shared_by_both += 1;
+                self.step(1 - first, asked, &[], 0, tally)?;
+                let mut mark = |place, when| {
+                    if when {
+                        tally.pairs.mark(place);
+                    }
+                };
+                mark(PairPlace::SharedRefused, answer.number != 0);
+                if answer.number == 0 {
+                    mark(PairPlace::SharedAccepted, true);
+                    mark(PairPlace::StandbyFirst, *first == STANDBY);
+                    mark(PairPlace::RequestsBetween, !between.is_empty());
+                    mark(PairPlace::MadeReady, !was_ready);
                     match asked.kind {
                         DISCARD => self.ledger.discard(asked.address),
                         _ => self.ledger.change(asked.address, asked.size),
                     }
                 }
             }
-            Event::Local { host, asked, short } => {
-                tally.local += 1;
-                self.step(*host, asked, &[], *short, tally)?;
-            }
-            Event::List(asked) => {
+            Event::List { asked, between } => {
                 let (by_lead, orders) = self.step(LEAD, asked, &[], 0, tally)?;
-                if by_lead.number == 0 {
-                    let list: Vec<u64> = orders
-                        .iter()
-                        .map(|order| match order {
-                            Order::Write { address, .. } => *address,
-                            other => unreachable!("{other:?} from a flush or sync"),
-                        })
-                        .collect();
+                let sent = by_lead.number == 0;
+                for aside in between {
+                    self.aside(aside, if sent { When::BeforeTaking } else { When::Settled }, tally)?;
+                }
+                if sent {
+                    let list = list_of(&orders);
                     let take = Asked { kind: TAKE, address: 0, size: 0, settings: [0; 22] };
                     let (by_standby, _) = self.step(STANDBY, &take, &list, 0, tally)?;
                     if by_standby.number != 0 {
@@ -132,10 +271,18 @@ impl Hosts {
                         });
                     }
                     self.ledger.list(&list);
-                    tally.lists += 1;
+                    tally.pairs.mark(PairPlace::ListTaken);
+                    if !between.is_empty() {
+                        tally.pairs.mark(PairPlace::RequestsBeforeTaking);
+                    }
                     tally.longest_list = tally.longest_list.max(list.len() as u64);
+                    self.taken = list;
+                } else {
+                    tally.pairs.mark(PairPlace::Refused);
+                    tally.pairs.mark(PairPlace::FlushRefusedByLead);
                 }
             }
+            Event::Aside(aside) => self.aside(aside, When::Settled, tally)?,
         }
         self.agree(tally)
     }
@@ -156,9 +303,13 @@ impl Hosts {
                 });
             }
         }
-        tally.settled += 1;
-        tally.settled_dirty += !self.ledger.records.is_empty() as u64;
-        tally.settled_due += (self.ledger.count > self.threshold) as u64;
+        tally.pairs.mark(PairPlace::Settled);
+        if !self.ledger.records.is_empty() {
+            tally.pairs.mark(PairPlace::SettledDirty);
+        }
+        if self.ledger.count > self.threshold {
+            tally.pairs.mark(PairPlace::SettledDue);
+        }
         Ok(())
     }
 }
@@ -180,8 +331,10 @@ impl Pair {
     }
 }
 
+// ---- drawing the next events
+
 /// An address that passes the test at both hosts.
-fn address_at_both(r: &mut Random, hosts: &Hosts, test: impl Fn(&crate::model::Entry) -> bool) -> Option<u64> {
+fn address_at_both(r: &mut Random, hosts: &Hosts, test: impl Fn(&Entry) -> bool) -> Option<u64> {
     let lead = &hosts.model(LEAD).entries;
     let found: Vec<u64> = lead.iter().filter(|(_, e)| test(e)).map(|(a, _)| *a).collect();
     let standby = &hosts.model(STANDBY).entries;
@@ -189,38 +342,160 @@ fn address_at_both(r: &mut Random, hosts: &Hosts, test: impl Fn(&crate::model::E
     (!both.is_empty()).then(|| r.pick(&both))
 }
 
-/// The next events: one, or a write hold at both.
-fn next(r: &mut Random, hosts: &Hosts, phase: &Phase, scale: Scale) -> Vec<Event> {
-    let host = match [LEAD, STANDBY].into_iter().find(|host| hosts.model(*host).no_row()) {
-        Some(stuck) if r.chance(50) => stuck,
-        _ => r.below(2) as usize,
-    };
-    let (mut asked, _) = requests::request(r, hosts.model(host), phase, scale);
-    if r.chance(20) {
-        // Both get ready for a changed release.
-        let mut at_both = asked;
-        at_both.kind = PROTECT_FOR_WRITING;
-        if let (Some(address), true) = (address_at_both(r, hosts, |e| e.hold == Hold::Free), r.chance(60)) {
-            at_both.address = address;
-        }
-        return [LEAD, STANDBY].map(|host| Event::Local { host, asked: at_both, short: 0 }).to_vec();
+/// What requests are drawn by.
+struct Draw<'a> {
+    r: &'a mut Random,
+    phase: &'a Phase,
+    scale: Scale,
+}
+
+impl Draw<'_> {
+    fn request(&mut self, m: &Model) -> Asked {
+        requests::request(self.r, m, self.phase, self.scale).0
     }
-    let targeted = r.chance(80);
-    let found = match asked.kind {
-        RELEASE_CHANGED if targeted => address_at_both(r, hosts, |e| e.hold == Hold::Writer),
-        RESIZE if targeted => {
-            address_at_both(r, hosts, |e| e.hold == Hold::Writer || (e.pinned && e.hold == Hold::Free))
+
+    fn local(&mut self, host: usize, asked: Asked) -> Aside {
+        let short = if self.r.chance(1) { self.r.between(1, 3) as usize } else { 0 };
+        Aside { host, asked, list: Vec::new(), short }
+    }
+
+    /// A list that a standby refuses: the right one with an address too many, or the last once more.
+    fn wrong_list(&mut self, standby: &Model, right: &[u64], taken: &[u64]) -> Vec<u64> {
+        let mut list = right.to_vec();
+        let wrong = match self.r.below(4) {
+            0 => Some(ALL_ONES),
+            1 if !list.is_empty() => Some(self.r.pick(&list)),
+            2 => standby.entries.iter().find(|(_, e)| !e.dirty).map(|(a, _)| *a),
+            3 => return taken.to_vec(),
+            _ => None,
+        };
+        let absent = || (0..).find(|a| !standby.entries.contains_key(a)).unwrap();
+        let place = self.r.below(list.len() as u64 + 1) as usize;
+        list.insert(place, wrong.unwrap_or_else(absent));
+        list
+    }
+
+    /// A flush, sync or take astray; it may be one that is accepted.
+    fn stray(&mut self, models: &Models, right: &[u64], taken: &[u64]) -> Aside {
+        let to_write = self.r.pick(&[FLUSH, SYNC]);
+        let (host, kind, list, short) = match self.r.below(8) {
+            0 => (LEAD, to_write, Vec::new(), self.r.pick(&[0, 1, 3])),
+            1 => (LEAD, TAKE, requests::list(self.r, &models[LEAD]), 0),
+            2 => (STANDBY, to_write, Vec::new(), 0),
+            _ => (STANDBY, TAKE, self.wrong_list(&models[STANDBY], right, taken), 0),
+        };
+        Aside { host, asked: Asked { kind, address: 0, size: 0, settings: [0; 22] }, list, short }
+    }
+
+    /// A local request of either, now and then about the address.
+    fn local_about(&mut self, models: &Models, address: Option<u64>) -> Aside {
+        let host = self.r.below(2) as usize;
+        loop {
+            let mut asked = self.request(&models[host]);
+            if !matches!(asked.kind, INSERT | RELEASE_CHANGED | RESIZE | DISCARD | FLUSH | SYNC | TAKE) {
+                if let (Some(address), true) = (address, self.r.chance(30)) {
+                    asked.address = address;
+                }
+                return self.local(host, asked);
+            }
         }
-        DISCARD if targeted => address_at_both(r, hosts, |e| e.is_listed()),
-        _ => None,
-    };
-    asked.address = found.unwrap_or(asked.address);
-    match asked.kind {
-        INSERT | RELEASE_CHANGED | RESIZE | DISCARD => vec![Event::Shared(asked)],
-        FLUSH | SYNC => vec![Event::List(asked)],
-        // The standby takes lists as sent, and no others.
-        TAKE => vec![Event::List(Asked { kind: r.pick(&[FLUSH, SYNC]), ..asked })],
-        _ => vec![Event::Local { host, asked, short: if r.chance(1) { r.between(1, 3) as usize } else { 0 } }],
+    }
+
+    /// Requests for between two halves; the models are made to hear them. `right` is the list that
+    /// waits, or else what the standby has dirty; some requests are about the address.
+    fn asides(&mut self, models: &mut Models, right: &[u64], taken: &[u64], address: Option<u64>) -> Vec<Aside> {
+        let mut asides = Vec::new();
+        if self.r.chance(50) {
+            return asides;
+        }
+        for _ in 0..self.r.between(1, 4) {
+            let aside = match self.r.chance(30) {
+                true => self.stray(models, right, taken),
+                false => self.local_about(models, address),
+            };
+            if hear(models, &aside) {
+                asides.push(aside);
+            }
+        }
+        asides
+    }
+
+    /// A local request that may make a cache accept a change which it refuses.
+    fn readying(&mut self, host: usize, m: &Model, change: &Asked) -> Option<Aside> {
+        let kind = match (change.kind, m.entries.get(&change.address)) {
+            (RELEASE_CHANGED | RESIZE, None) => PROTECT_FOR_WRITING,
+            (RELEASE_CHANGED | RESIZE, Some(e)) if e.hold == Hold::Free => PROTECT_FOR_WRITING,
+            (RELEASE_CHANGED | RESIZE | DISCARD, Some(e)) if e.hold != Hold::Free => RELEASE_UNCHANGED,
+            (DISCARD, Some(e)) if e.pinned => UNPIN,
+            _ => return None,
+        };
+        Some(Aside { host, asked: Asked { kind, ..*change }, list: Vec::new(), short: 0 })
+    }
+
+    fn shared(&mut self, hosts: &Hosts, asked: Asked, first: usize) -> Event {
+        let mut models = hosts.models();
+        let other = 1 - first;
+        let accepted = ask(&mut models[first], &asked).is_ok();
+        let right: Vec<u64> = models[STANDBY].dirty_records().into_keys().collect();
+        let mut between = self.asides(&mut models, &right, &hosts.taken, Some(asked.address));
+        if accepted && !accepts(&models[other], &asked) {
+            between.extend(self.readying(other, &models[other], &asked));
+        }
+        Event::Shared { asked, first, between }
+    }
+
+    fn list(&mut self, hosts: &Hosts, asked: Asked) -> Event {
+        let mut models = hosts.models();
+        let orders = ask(&mut models[LEAD], &asked).unwrap_or_default();
+        let between = self.asides(&mut models, &list_of(&orders), &hosts.taken, None);
+        Event::List { asked, between }
+    }
+
+    /// The next events: one, or a write hold at both.
+    fn next(&mut self, hosts: &Hosts) -> Vec<Event> {
+        let host = match [LEAD, STANDBY].into_iter().find(|host| hosts.model(*host).no_row()) {
+            Some(stuck) if self.r.chance(50) => stuck,
+            _ => self.r.below(2) as usize,
+        };
+        let mut asked = self.request(hosts.model(host));
+        if self.r.chance(20) {
+            // Both get ready for a changed release.
+            let mut at_both = asked;
+            at_both.kind = PROTECT_FOR_WRITING;
+            let found = address_at_both(self.r, hosts, |e| e.hold == Hold::Free);
+            if let (Some(address), true) = (found, self.r.chance(60)) {
+                at_both.address = address;
+            }
+            return [LEAD, STANDBY]
+                .map(|host| Event::Aside(Aside { host, asked: at_both, list: Vec::new(), short: 0 }))
+                .to_vec();
+        }
+        if self.r.chance(4) {
+            let right: Vec<u64> = hosts.model(STANDBY).dirty_records().into_keys().collect();
+            let stray = Event::Aside(self.stray(&hosts.models(), &right, &hosts.taken));
+            return if hosts.allows(&stray) { vec![stray] } else { Vec::new() };
+        }
+        let targeted = self.r.chance(80);
+        let found = match asked.kind {
+            RELEASE_CHANGED if targeted => address_at_both(self.r, hosts, |e| e.hold == Hold::Writer),
+            RESIZE if targeted => {
+                address_at_both(self.r, hosts, |e| e.hold == Hold::Writer || (e.pinned && e.hold == Hold::Free))
+            }
+            DISCARD if targeted => address_at_both(self.r, hosts, |e| e.is_listed()),
+            _ => None,
+        };
+        asked.address = found.unwrap_or(asked.address);
+        let event = match asked.kind {
+            INSERT | RELEASE_CHANGED | RESIZE | DISCARD => self.shared(hosts, asked, host),
+            FLUSH | SYNC => self.list(hosts, asked),
+            // The standby takes lists as sent.
+            TAKE => {
+                let kind = self.r.pick(&[FLUSH, SYNC]);
+                self.list(hosts, Asked { kind, ..asked })
+            }
+            _ => Event::Aside(self.local(host, asked)),
+        };
+        vec![event]
     }
 }
 
@@ -246,13 +521,25 @@ fn go_on(r: &mut Random, pair: &mut Pair, scale: Scale, tally: &mut Tally) -> Re
         if r.chance(2) {
             phase = Phase::any(r);
         }
-        for event in next(r, &hosts, &phase, scale) {
+        for event in (Draw { r, phase: &phase, scale }).next(&hosts) {
             pair.events.push(event);
             hosts.happen(pair.events.last().unwrap(), tally)?;
         }
     }
     assert!(hosts.ledger.count <= COUNT_STOP);
     Ok(())
+}
+
+// ---- as text
+
+impl std::fmt::Display for Aside {
+    fn fmt(&self, f: &mut std::fmt::Formatter) -> std::fmt::Result {
+        write!(f, "{}: {}", NAMES[self.host], asked_text(&self.asked, &self.list))?;
+        if self.short != 0 {
+            write!(f, " [{} order words short]", self.short)?;
+        }
+        Ok(())
+    }
 }
 
 impl std::fmt::Display for Pair {
@@ -262,17 +549,23 @@ impl std::fmt::Display for Pair {
             writeln!(f, "{name}: open {rows} rows, threshold {}, {settings}", self.threshold)?;
         }
         for event in &self.events {
-            match event {
-                Event::Shared(asked) => write!(f, "both: {}", asked_text(asked, &[]))?,
-                Event::Local { host, asked, short } => {
-                    write!(f, "{}: {}", NAMES[*host], asked_text(asked, &[]))?;
-                    if *short != 0 {
-                        write!(f, " [{short} order words short]")?;
-                    }
+            let (halves, between): ([String; 2], &[Aside]) = match event {
+                Event::Aside(aside) => {
+                    writeln!(f, "{aside}")?;
+                    continue;
                 }
-                Event::List(asked) => write!(f, "lead: {}; the standby takes the list", asked_text(asked, &[]))?,
+                Event::Shared { asked, first, between } => {
+                    ([*first, 1 - first].map(|host| format!("{}: {}", NAMES[host], asked_text(asked, &[]))), between)
+                }
+                Event::List { asked, between } => {
+                    ([format!("lead: {}", asked_text(asked, &[])), "standby: takes the list".to_string()], between)
+                }
+            };
+            writeln!(f, "{}", halves[0])?;
+            for aside in between {
+                writeln!(f, "  {aside}")?;
             }
-            writeln!(f)?;
+            writeln!(f, "{}", halves[1])?;
         }
         Ok(())
     }

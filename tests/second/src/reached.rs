@@ -1,15 +1,43 @@
-//! Places of the rules, and how often runs reached them.
+//! Places of the rules and of the runs, and how often they were reached.
 
+/// An enum of places, each with its words, and a struct that counts them.
 macro_rules! places {
-    ($($name:ident $words:literal,)*) => {
+    ($place:ident in $reached:ident: $($name:ident $words:literal,)*) => {
         #[derive(Clone, Copy)]
-        pub enum Place { $($name,)* }
+        pub enum $place { $($name,)* }
 
-        const NAMES: &[&str] = &[$($words,)*];
+        #[derive(Clone, Debug)]
+        pub struct $reached([u64; $reached::NAMES.len()]);
+
+        impl Default for $reached {
+            fn default() -> $reached {
+                $reached([0; $reached::NAMES.len()])
+            }
+        }
+
+        impl $reached {
+            const NAMES: &[&str] = &[$($words,)*];
+
+            pub fn mark(&mut self, place: $place) {
+                self.0[place as usize] += 1;
+            }
+
+            pub fn add(&mut self, other: &$reached) {
+                for (mine, others) in self.0.iter_mut().zip(other.0) {
+                    *mine += others;
+                }
+            }
+
+            /// Each place's name and how often it was reached.
+            pub fn iter(&self) -> impl Iterator<Item = (&'static str, u64)> + '_ {
+                $reached::NAMES.iter().copied().zip(self.0)
+            }
+        }
     };
 }
 
-places! {
+// What the rules do.
+places! { Place in Reached:
     Hit "hit counted",
     Miss "miss counted",
     ReaderJoins "reader joins readers",
@@ -40,30 +68,34 @@ places! {
     CountStopped "byte count at its stop",
 }
 
-const PLACES: usize = NAMES.len();
-
-#[derive(Clone, Debug)]
-pub struct Reached([u64; PLACES]);
-
-impl Default for Reached {
-    fn default() -> Reached {
-        Reached([0; PLACES])
-    }
-}
-
-impl Reached {
-    pub fn mark(&mut self, place: Place) {
-        self.0[place as usize] += 1;
-    }
-
-    pub fn add(&mut self, other: &Reached) {
-        for (mine, others) in self.0.iter_mut().zip(other.0) {
-            *mine += others;
-        }
-    }
-
-    /// Each place's name and how often it was reached.
-    pub fn iter(&self) -> impl Iterator<Item = (&'static str, u64)> + '_ {
-        NAMES.iter().copied().zip(self.0)
-    }
+// What a lead and a standby do.
+places! { PairPlace in PairReached:
+    SharedAccepted "shared changes that both accepted",
+    StandbyFirst "  the standby first",
+    RequestsBetween "  with requests between the halves",
+    MadeReady "  which one of these made both accept",
+    SharedRefused "shared changes that both refused",
+    SharedKeptBack "shared changes kept back: one would refuse",
+    ListTaken "lists taken",
+    RequestsBeforeTaking "  with requests between list and taking",
+    Local "local requests",
+    LeadBetween "  of the lead between the halves",
+    StandbyBetween "  of the standby between the halves",
+    LeadBeforeTaking "  of the lead between list and taking",
+    StandbyBeforeTaking "  of the standby between list and taking",
+    Refused "requests refused",
+    RefusedBetween "  between the halves",
+    RefusedBeforeTaking "  between list and taking",
+    FlushRefusedByLead "  flush or sync, by the lead",
+    TakeByLead "  take, by the lead",
+    FlushByStandby "  flush, by the standby",
+    SyncByStandby "  sync, by the standby",
+    ListWithAllOnes "  take of all ones, by the standby",
+    ListWithTwice "  take of an address twice, by the standby",
+    ListTakenBefore "  take of a list again, by the standby",
+    ListWithClean "  take of what is not dirty, by the standby",
+    WrongListFirst "  take of a wrong list before the right one",
+    Settled "settled points that agree with the ledger",
+    SettledDirty "  with dirty records",
+    SettledDue "  with a list due",
 }

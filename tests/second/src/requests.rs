@@ -375,7 +375,7 @@ fn address(r: &mut Random, m: &Model, kind: u64, phase: &Phase) -> u64 {
 }
 
 /// A list for taking, mostly one of dirty addresses.
-fn list(r: &mut Random, m: &Model) -> Vec<u64> {
+pub fn list(r: &mut Random, m: &Model) -> Vec<u64> {
     let percent = r.pick(&[0, 20, 100]);
     let mut list: Vec<u64> = m.dirty_records().into_keys().filter(|_| r.chance(percent)).collect();
     r.shuffle(&mut list);

@@ -2,7 +2,7 @@
 
 use crate::boundary::KINDS;
 use crate::library::Answer;
-use crate::reached::Reached;
+use crate::reached::{PairReached, Reached};
 
 #[derive(Clone, Default)]
 pub struct Tally {
@@ -21,17 +21,9 @@ pub struct Tally {
     pub damaged_bad: u64,
     pub damaged_good: u64,
     pub states: u64,
-    /// Of a lead and a standby.
-    pub shared_by_both: u64,
-    pub shared_refused_by_both: u64,
-    pub shared_not_sent: u64,
-    pub local: u64,
-    pub lists: u64,
     pub longest_list: u64,
-    pub settled: u64,
-    pub settled_dirty: u64,
-    pub settled_due: u64,
     pub reached: Reached,
+    pub pairs: PairReached,
 }
 
 pub const OPENING: usize = 14;
@@ -67,26 +59,24 @@ impl Tally {
         for (field, times) in self.fields.iter().enumerate().skip(1) {
             print!(" {field}: {times}");
         }
+        let line = |(name, times)| println!("  {name:44}{times:>10}");
         println!("\n\nrules");
-        for (name, times) in self.reached.iter() {
-            println!("  {name:44}{times:>10}");
-        }
+        self.reached.iter().for_each(line);
         println!("\ntables");
-        println!("  {:44}{:>10}", "any allowed state put into the table", self.states);
-        println!("  {:44}{:>10}", "damaged, and still a cache", self.damaged_good);
-        println!("  {:44}{:>10}", "damaged, and no cache", self.damaged_bad);
-        println!("  {:44}{:>10}", "orders", self.orders);
-        println!("  {:44}{:>10}", "reports", self.reports);
+        line(("any allowed state put into the table", self.states));
+        line(("damaged, and still a cache", self.damaged_good));
+        line(("damaged, and no cache", self.damaged_bad));
+        line(("orders", self.orders));
+        line(("reports", self.reports));
         println!("\nlead and standby");
-        println!("  {:44}{:>10}", "runs", self.pair_runs);
-        println!("  {:44}{:>10}", "shared changes that both accepted", self.shared_by_both);
-        println!("  {:44}{:>10}", "shared changes that both refused", self.shared_refused_by_both);
-        println!("  {:44}{:>10}", "shared changes kept back: one would refuse", self.shared_not_sent);
-        println!("  {:44}{:>10}", "local requests", self.local);
-        println!("  {:44}{:>10}", "lists taken", self.lists);
-        println!("  {:44}{:>10}", "longest list", self.longest_list);
-        println!("  {:44}{:>10}", "settled points that agree with the ledger", self.settled);
-        println!("  {:44}{:>10}", "  with dirty records", self.settled_dirty);
-        println!("  {:44}{:>10}", "  with a list due", self.settled_due);
+        line(("runs", self.pair_runs));
+        line(("longest list", self.longest_list));
+        self.pairs.iter().for_each(line);
+    }
+
+    /// What no run reached.
+    pub fn never_reached(&self) -> Vec<&'static str> {
+        let places = self.reached.iter().chain(self.pairs.iter());
+        places.filter(|(_, times)| *times == 0).map(|(name, _)| name.trim_start()).collect()
     }
 }
