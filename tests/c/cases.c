@@ -51,6 +51,45 @@ static void three_inserts(void) {
     expect(figures.entries == 2 && figures.maximum == 4096 && figures.totals[0] == 1500, "the other figures");
 }
 
+static void one_entry(void) {
+    expect(open_small(SPELDERVACHT_ALONE) == SPELDERVACHT_ACCEPTED, "opening");
+    expect(ask(SPELDERVACHT_PROTECT_FOR_WRITING, 100, 10).orders == 1 && order_is(0, SPELDERVACHT_LOAD, 100, 10),
+           "load 100 10");
+    expect(ask(SPELDERVACHT_PROTECT_FOR_READING, 100, 10).number == SPELDERVACHT_HELD, "held for writing");
+    expect(ask(SPELDERVACHT_RESIZE, 100, 20).number == SPELDERVACHT_ACCEPTED, "resize");
+    expect(speldervacht_report(table, TABLE).dirty == 20, "20 dirty");
+    expect(ask(SPELDERVACHT_PIN, 100, 0).number == SPELDERVACHT_ACCEPTED, "pin");
+    expect(ask(SPELDERVACHT_RELEASE_CHANGED, 100, 30).number == SPELDERVACHT_ACCEPTED, "release changed");
+    expect(ask(SPELDERVACHT_DISCARD, 100, 0).number == SPELDERVACHT_PIN_FORBIDS, "discard of a pinned entry");
+    expect(ask(SPELDERVACHT_UNPIN, 100, 0).number == SPELDERVACHT_ACCEPTED, "unpin");
+    expect(ask(SPELDERVACHT_FLUSH, 0, 0).orders == 1 && order_is(0, SPELDERVACHT_WRITE, 100, 30), "write 100 30");
+    ask(SPELDERVACHT_PROTECT_FOR_READING, 100, 10);
+    expect(ask(SPELDERVACHT_PROTECT_FOR_READING, 100, 10).number == SPELDERVACHT_ACCEPTED, "two readers");
+    ask(SPELDERVACHT_RELEASE_UNCHANGED, 100, 0);
+    expect(ask(SPELDERVACHT_DISCARD, 100, 0).number == SPELDERVACHT_HELD, "one reader left");
+    ask(SPELDERVACHT_RELEASE_UNCHANGED, 100, 0);
+    expect(ask(SPELDERVACHT_DISCARD, 100, 0).number == SPELDERVACHT_ACCEPTED, "discard");
+    expect(speldervacht_report(table, TABLE).entries == 0, "no entries");
+}
+
+/* Which words a rule's kind reads shows in the table. */
+static void rule_kinds(void) {
+    speldervacht_settings settings = speldervacht_default_settings();
+    expect(open_small(SPELDERVACHT_LEAD) == SPELDERVACHT_ACCEPTED, "opening with no rules");
+    expect(table[15] == 0 && table[20] == 0 && table[23] == 0, "no increase, no flash, no decrease");
+    settings.increment_kind = settings.decrement_kind = SPELDERVACHT_NO_CAP;
+    settings.decrease_multiplier = 0.5;
+    settings.decrease_kind = SPELDERVACHT_DECREASE_BY_THRESHOLD;
+    expect(speldervacht_open(table, TABLE, ROWS, SPELDERVACHT_LEAD, 1, settings).number == SPELDERVACHT_ACCEPTED,
+           "opening with a decrease by threshold");
+    expect(table[24] != 0 && table[25] == 0 && table[26] != 0, "upper rate and multiplier");
+    expect(table[19] == 0 && table[28] == 0, "no caps");
+    settings.decrease_kind = SPELDERVACHT_DECREASE_BY_AGE_OUT;
+    expect(speldervacht_open(table, TABLE, ROWS, SPELDERVACHT_LEAD, 1, settings).number == SPELDERVACHT_ACCEPTED,
+           "opening with an age-out");
+    expect(table[24] == 0 && table[25] == 3 && table[26] != 0, "epochs and reserve");
+}
+
 static void refusals(void) {
     speldervacht_request configure = speldervacht_request_of(SPELDERVACHT_CONFIGURE, 0, 0);
     speldervacht_answer answer;
@@ -93,11 +132,21 @@ static void lists(void) {
     expect(speldervacht_report(table, TABLE).dirty == 30, "30 dirty");
     expect(speldervacht_step(table, TABLE, NULL, 0, list, 2, take).number == SPELDERVACHT_ACCEPTED, "a list");
     expect(speldervacht_report(table, TABLE).dirty == 0, "none dirty");
+    expect(open_small(SPELDERVACHT_LEAD) == SPELDERVACHT_ACCEPTED, "opening a lead");
+    for (uint64_t address = 1; address <= ROWS; address++) {
+        ask(SPELDERVACHT_INSERT, address, 10);
+    }
+    expect(ask(SPELDERVACHT_INSERT, 5, 10).number == SPELDERVACHT_NO_ROW, "11");
+    expect(ask(SPELDERVACHT_SYNC, 0, 0).number == SPELDERVACHT_ACCEPTED, "sync");
+    expect(ask(SPELDERVACHT_FLUSH, 0, 0).orders == ROWS, "flush");
+    expect(ask(SPELDERVACHT_INSERT, 5, 10).number == SPELDERVACHT_ACCEPTED, "a row again");
 }
 
 int main(void) {
     three_inserts();
     refusals();
     lists();
+    one_entry();
+    rule_kinds();
     return outcome("all cases hold");
 }
