@@ -6,17 +6,23 @@
 use second::boundary::{request_of, settings_words, Asked};
 use second::library;
 use second::model::{self, order_words, Decrease, Entry, Hold, Mode, Model, Request, Settings};
+use second::random::Random;
 use second::table::{judge, picture, table_words};
+use std::cell::RefCell;
 use std::hint::black_box;
 use std::time::{Duration, Instant};
 
 const ROW_COUNTS: [usize; 3] = [64, 1_024, 4_096];
 /// Bytes of every entry.
 const SIZE: u64 = 512;
+/// For the orders of the rows, of the recency lists and of the lists taken.
+const ROWS_SEED: u64 = 1;
+const RECENCY_SEED: u64 = 2;
+const LIST_SEED: u64 = 3;
 /// Time spent on one figure, and how often it is measured at least and at most.
-const TIME: Duration = Duration::from_millis(150);
+const TIME: Duration = Duration::from_millis(400);
 const FEWEST: usize = 3;
-const MOST: usize = 5_000;
+const MOST: usize = 100_000;
 
 const INSERT: u64 = 1;
 const PROTECT_FOR_READING: u64 = 2;
@@ -49,12 +55,19 @@ fn time<T, R>(mut prepare: impl FnMut() -> T, mut run: impl FnMut(T) -> R) -> f6
 
 // ---- what is timed
 
-/// The address in a row, even and below twice the rows; neighbours stand in rows far apart.
-fn address_in(row: usize, rows: usize) -> u64 {
-    2 * (row * 1_237 % rows) as u64
+/// The even addresses below twice the rows, shuffled.
+fn shuffled_addresses(rows: usize, seed: u64) -> Vec<u64> {
+    let mut addresses = rising_addresses(rows);
+    Random::new(seed).shuffle(&mut addresses);
+    addresses
 }
 
-/// A cache with every row used, the first row's entry at the tail.
+fn rising_addresses(rows: usize) -> Vec<u64> {
+    (0..rows as u64).map(|place| 2 * place).collect()
+}
+
+/// A cache with every row used. Neither the rows nor the recency list is in the addresses' order, nor
+/// in each other's.
 fn full_cache(rows: usize, mode: Mode, dirty: bool) -> Model {
     let settings = Settings {
         initial_size: rows as u64 * SIZE,
@@ -64,11 +77,11 @@ fn full_cache(rows: usize, mode: Mode, dirty: bool) -> Model {
         ..Settings::default_values()
     };
     let mut m = model::open(rows as u64, true, Some(mode), 262_144, settings).unwrap();
-    for row in 0..rows {
+    for (row, address) in shuffled_addresses(rows, ROWS_SEED).into_iter().enumerate() {
         let entry = Entry { size: SIZE, dirty, idle: 3, pinned: false, hold: Hold::Free, row };
-        m.entries.insert(address_in(row, rows), entry);
-        m.recency.push_front(address_in(row, rows));
+        m.entries.insert(address, entry);
     }
+    m.recency = shuffled_addresses(rows, RECENCY_SEED).into();
     m
 }
 
@@ -91,6 +104,8 @@ struct Case {
     cache: Model,
     asked: Vec<Asked>,
     list: Vec<u64>,
+    /// Whether the list is shuffled anew before each time, so that no branch of one is known from another.
+    shuffled: bool,
     /// How many orders each request gives; none is known where it is refused.
     orders: Vec<Option<u64>>,
 }
@@ -118,6 +133,7 @@ fn cases(rows: usize) -> Vec<Case> {
         cache: cache.clone(),
         asked,
         list: Vec::new(),
+        shuffled: false,
         orders: orders.into_iter().map(Some).collect(),
     };
     vec![
@@ -138,11 +154,12 @@ fn cases(rows: usize) -> Vec<Case> {
         case("flush, all rows dirty", &dirty, vec![ask(FLUSH, 0, 0)], vec![n]),
         case("sync, writes half of the rows", &full_cache(rows, Mode::Lead, true), vec![ask(SYNC, 0, 0)], vec![n / 2]),
         Case {
-            list: (0..n).map(|place| 2 * place).collect(),
+            list: rising_addresses(rows),
             ..case("take, all rows, as a flush lists them", &follower, vec![ask(TAKE, 0, 0)], vec![0])
         },
         Case {
-            list: (0..rows).map(|row| address_in(row, rows)).collect(),
+            list: rising_addresses(rows),
+            shuffled: true,
             ..case("take, all rows, addresses in no order", &follower, vec![ask(TAKE, 0, 0)], vec![0])
         },
         case("configure", &clean, vec![configure], vec![0]),
@@ -189,22 +206,35 @@ fn time_case(case: &Case) -> Figures {
         let told = (answer.number == 0).then_some(answer.orders);
         assert_eq!((told, given), (*expected, *expected), "{} at {rows} rows", case.name);
     }
-    // The two need the table in turn.
-    let table = std::cell::RefCell::new(table);
+    // Preparing and running need these in turn.
+    let table = RefCell::new(table);
+    let list = RefCell::new(case.list.clone());
+    let mut random = Random::new(LIST_SEED);
+    let mut next_list = || {
+        if case.shuffled {
+            random.shuffle(&mut list.borrow_mut());
+        }
+    };
     let library = time(
-        || table.borrow_mut().copy_from_slice(&words),
+        || {
+            next_list();
+            table.borrow_mut().copy_from_slice(&words)
+        },
         |()| {
             let table = &mut *table.borrow_mut();
             for asked in &case.asked {
-                black_box(library::step(table, &mut orders, &case.list, asked));
+                black_box(library::step(table, &mut orders, &list.borrow(), asked));
             }
         },
     );
     let model = time(
-        || case.cache.clone(),
+        || {
+            next_list();
+            case.cache.clone()
+        },
         |mut model| {
             for request in &requests {
-                black_box(model.step(request, &case.list, lent).is_ok());
+                black_box(model.step(request, &list.borrow(), lent).is_ok());
             }
             model
         },
