@@ -1,10 +1,13 @@
-pub mod Lent
 pub mod OpenAnswers
 pub mod ReportAnswers
+pub mod AskAnswers
 pub mod StepAnswers
+pub mod Carried
 pub mod Settled
 pub mod Pictured
 pub mod Read
 pub mod Hosts
 pub mod History
 pub mod Runs
+pub mod AskedRuns
+pub mod AskedShown

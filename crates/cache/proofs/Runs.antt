@@ -53,29 +53,29 @@ pub record OnTables (t : ℕ) (a b : Cache) (l : Ledger) (p : Pending) : Type 0 
 
 -- ---- one request, as the rules name it
 
-abbrev blank : ℕ → List ℕ
+abbrev pub blank : ℕ → List ℕ
 blank n = replicate n 0
 
 module _ {ws : List ℕ} {c : Cache} (k : Pictures ws c) (call : Call) where
-  same-step : step (cacheIn ws) (asking (call .request) (call .list) (length (blank (call .lent)))) ≡ step c call
+  pub same-step : step (cacheIn ws) (asking (call .request) (call .list) (length (blank (call .lent)))) ≡ step c call
   same-step = rw (k .cache, length-replicate {A = ℕ} (call .lent) 0)
 
-  tells : accepts (stepWords ws (blank (call .lent)) (call .list) (call .request)) ≡ accepted (step c call)
+  pub tells : accepts (stepWords ws (blank (call .lent)) (call .list) (call .request)) ≡ accepted (step c call)
   tells = accepts-as ws (blank (call .lent)) (call .list) (call .request) (k .passes) ∙ ap accepted same-step
 
-  pictures : FloatsOf (call .request) → Pictures (stepWords ws (blank (call .lent)) (call .list) (call .request) .table) (step c call .cache)
+  pub pictures : FloatsOf (call .request) → Pictures (stepWords ws (blank (call .lent)) (call .list) (call .request) .table) (step c call .cache)
   pictures f =
       subst (λ (d : Cache). Pictures (stepWords ws (blank (call .lent)) (call .list) (call .request) .table) d) (ap (λ o. o .cache) same-step)
       (pictures-after ws (blank (call .lent)) (call .list) (call .request) (k .passes) f)
 
-  pictures-not : accepted (step c call) ≡ false → Pictures (stepWords ws (blank (call .lent)) (call .list) (call .request) .table) (step c call .cache)
+  pub pictures-not : accepted (step c call) ≡ false → Pictures (stepWords ws (blank (call .lent)) (call .list) (call .request) .table) (step c call .cache)
   pictures-not h =
       subst (λ (d : Cache). Pictures (stepWords ws (blank (call .lent)) (call .list) (call .request) .table) d) (ap (λ o. o .cache) same-step)
       (pictures-refused ws (blank (call .lent)) (call .list) (call .request) (k .passes) (tells ∙ h))
 
 -- ---- opening
 
-opens : (n : ℕ) (m : Mode) (t : ℕ) (s : Settings) → refusalOfOpening n true (some m) t s ≡ none → openWords (blank (layoutWords n)) n m t s .answer ≡ Accepted 0
+pub opens : (n : ℕ) (m : Mode) (t : ℕ) (s : Settings) → refusalOfOpening n true (some m) t s ≡ none → openWords (blank (layoutWords n)) n m t s .answer ≡ Accepted 0
 unfolding openWords
 opens n m t s h =
     let e : leb (layoutWords n) (length (blank (layoutWords n))) ≡ true = le-leb (layoutWords n) (length (blank (layoutWords n))) (let l = length-replicate {A = ℕ} (layoutWords n) 0 in omega arith) in
@@ -143,7 +143,7 @@ on-tables (Run.standby-takes list lent e r) f =
 
 -- ---- such runs exist
 
-small-fits : FloatsFit small
+pub small-fits : FloatsFit small
 unfolding fits round
 small-fits = record { clean = tt; increase = tt; flash = tt; decrease = tt }
 

@@ -1,3 +1,5 @@
 pub mod Tables
+pub mod Work
 pub mod Hosts
+pub mod Asked
 pub mod History

@@ -1,11 +1,14 @@
-// The cache on a table that the host lends: open, step and report.
+// The cache on a table that the host lends: open, step, ask and report.
 //
 // Each takes any words. A table is judged before anything else is done with it, but for the old
 // words of one that is opened.
+mod asking;
 mod opening;
 mod reporting;
 mod stepping;
+mod work;
 
+pub use asking::ask;
 pub use opening::open;
 pub use reporting::Reported;
 pub use reporting::report;

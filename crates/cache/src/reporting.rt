@@ -2,7 +2,7 @@
 ghost use mathlib.Core.Path.{_≡_};
 ghost use Rattle.cache.specs.Tables.{noReport, reportWords};
 use judge::judge;
-use report::report_of;
+use reports::report_of;
 use rules::answer::Answer;
 use rules::answer::Refusal;
 use rules::report::Report;

@@ -1,22 +1,16 @@
 // One request on the cache in a lent table.
 ghost use mathlib.Core.Path.{_≡_};
 ghost use Rattle.cache.specs.Tables.{left, stepWords};
-use configure::configure;
-use edits::discard::discard;
-use edits::flush::flush;
-use edits::pin::pin;
-use edits::pin::unpin;
-use edits::sync::sync;
-use edits::take::take;
-use insert::insert;
+use crate::work::carry_out;
 use judge::judge;
-use protect::protect;
-use release::release;
-use release::release_changed;
+use lists::take::take;
+use refusals::named::find_named;
+use refusals::refusal_of;
 use rules::answer::Answer;
 use rules::answer::Refusal;
+use rules::answer::Verdict;
 use rules::request::Request;
-use sizes::resize_entry;
+use table::header::row_count;
 
 // Does one request: the answer has the number of orders, which stand in the words lent for them.
 pub fn step(table: &mut [u64], orders: &mut [u64], list: &[u64], request: Request) -> Answer
@@ -25,24 +19,15 @@ pub fn step(table: &mut [u64], orders: &mut [u64], list: &[u64], request: Reques
     if !judge(table) {
         return Answer::Refused(Refusal::Table);
     }
-    match request {
-        Request::Insert { address, size } => insert(table, orders, address, size),
-        Request::Protect {
-            access,
-            address,
-            size,
-        } => protect(table, orders, access, address, size),
-        Request::Release { address } => release(table, orders, address),
-        Request::ReleaseChanged { address, size } => {
-            release_changed(table, orders, address, size)
-        }
-        Request::Pin { address } => pin(table, address),
-        Request::Unpin { address } => unpin(table, address),
-        Request::Resize { address, size } => resize_entry(table, address, size),
-        Request::Discard { address } => discard(table, address),
-        Request::Flush => flush(table, orders),
-        Request::Sync => sync(table, orders),
-        Request::Take => take(table, list),
-        Request::Configure(s) => configure(table, orders, s),
+    if let Request::Take = request {
+        return take(table, list);
     }
+    let rows = row_count(table);
+    let found = find_named(table, rows, request);
+    let verdict = refusal_of(table, rows, found, orders.len(), list, request);
+    if let Verdict::Refused(refusal) = verdict {
+        return Answer::Refused(refusal);
+    }
+    let given = carry_out(table, orders, found, list, request);
+    Answer::Accepted(given as u64)
 }

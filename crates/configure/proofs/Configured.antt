@@ -3,6 +3,7 @@ use Prim.Native.Nat.{ℕ, _≤_, min, max}
 use mathlib.Core.Bool.{false}
 use mathlib.Core.List.{List}
 use mathlib.Core.Path.{_≡_, ap, subst, _∙_}
+use lib.ListN.{length}
 use Rattle.settings.specs.Validation.{firstBad}
 use Rattle.settings.specs.declared.Settings.{Settings}
 use Rattle.rules.proofs.Figures.{configured-range}
@@ -10,10 +11,13 @@ use Rattle.rules.proofs.Tests.{choose, either}
 use Rattle.rules.specs.Cache.{Cache, withSettings, withMaximum, withCounters}
 use Rattle.rules.specs.Entries.{if_then_else_}
 use Rattle.rules.specs.Limits.{countStop}
+use Rattle.rules.specs.Refusals.{tooFewWords}
 use Rattle.rules.specs.Requests.{brought, configured}
-use Rattle.layout.proofs.Held.{onward}
+use Rattle.layout.proofs.Held.{holds-cache, onward}
 use Rattle.layout.specs.Holds.{Holds}
 use Rattle.layout.specs.Picture.{cacheIn, restIn}
+use Rattle.room.proofs.Orders.{words-fit}
+use Rattle.room.specs.Did.{Fits}
 use Rattle.table.specs.Asked.{Settable}
 
 -- with no initial size: up to the smallest, and down to the largest
@@ -34,3 +38,7 @@ module _ (s : Settings) (c : Cache) (maximum n : ℕ) (p : maximum ≡ c .maximu
   pub configured-held : {mid out rest : List ℕ} → Holds mid (withMaximum n (withSettings s c)) rest → Holds out (withCounters 0 0 (cacheIn mid)) (restIn mid)
       → Holds out (configured s c) rest
   configured-held {mid} {out} {rest} h k = subst (λ (m : ℕ). Holds out (withCounters 0 0 (withMaximum m (withSettings s c))) rest) maximum-is (onward (withCounters 0 0) h k)
+
+-- the orders that can come for the table that the settings left
+pub configured-fits : (s : Settings) (c : Cache) (lent : List ℕ) {mid rest : List ℕ} → tooFewWords c (length lent) ≡ false → Holds mid (configured s c) rest → Fits (cacheIn mid) 0 lent
+configured-fits s c lent {mid} t k = words-fit c (cacheIn mid) lent t (ap (λ (d : Cache). length (d .rows)) (holds-cache k))

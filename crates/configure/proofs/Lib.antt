@@ -1,2 +1,1 @@
 pub mod Configured
-pub mod Answers

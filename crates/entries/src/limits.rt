@@ -3,9 +3,7 @@ ghost use mathlib.Core.Path.{_≡_};
 ghost use Prim.Native.Nat.{_+_, _*_, _≤_, min};
 ghost use lib.Dec.{ltb};
 ghost use Rattle.rules.specs.Limits.{countStop, defaultThreshold, mostSize, mostRows};
-ghost use Rattle.rules.specs.Refusals.{firstOf, badAddress, badSize, isAlone, isStandby, isLead};
-ghost use Rattle.entries.specs.FirstTests.{firstTests, verdictOf};
-use rules::answer::Refusal;
+ghost use Rattle.rules.specs.Refusals.{badAddress, badSize, isAlone, isStandby, isLead};
 use rules::request::Mode;
 
 const ALL_ONES: u64 = 0xffff_ffff_ffff_ffff;
@@ -15,13 +13,6 @@ const MOST_SIZE: u64 = 134217728;
 const DEFAULT_THRESHOLD: u64 = 262144;
 
 const COUNT_STOP: u64 = 1099511627776;
-
-// What the first tests of a request tell.
-pub enum Verdict {
-    // None of them passes.
-    Proceed,
-    Refused(Refusal),
-}
 
 pub fn bad_address(address: u64) -> bool
     ensures { λ r. ⌜ r ≡ badAddress address ⌝ }
@@ -41,23 +32,6 @@ pub fn too_few_words(rows: usize, lent: usize) -> bool
     ensures { λ r. ⌜ r ≡ ltb lent (3 * (2 * rows + 1)) ⌝ }
 {
     lent < 3 * (2 * rows + 1)
-}
-
-// The first tests of a request that can give orders and names an address and a size.
-pub fn first_tests(rows: usize, lent: usize, address: u64, size: u64) -> Verdict
-    requires { ⌜ rows ≤ mostRows ⌝ }
-    ensures { λ r. ⌜ r ≡ verdictOf (firstOf (firstTests rows lent address size)) ⌝ }
-{
-    if too_few_words(rows, lent) {
-        return Verdict::Refused(Refusal::OrderWords);
-    }
-    if bad_address(address) {
-        return Verdict::Refused(Refusal::Address);
-    }
-    if bad_size(size) {
-        return Verdict::Refused(Refusal::Size);
-    }
-    Verdict::Proceed
 }
 
 pub fn is_alone(mode: Mode) -> bool

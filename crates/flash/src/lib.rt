@@ -50,6 +50,6 @@ pub fn flash(table: &mut [u64], rows: usize, x: u64)
         return;
     }
     let held = held_bytes(table, rows);
-    let n = resize::flash_maximum(rule, x, before, held, s.largest);
+    let n = new_maximum::flash_maximum(rule, x, before, held, s.largest);
     raise(table, before, n);
 }

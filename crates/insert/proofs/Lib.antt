@@ -1,2 +1,1 @@
 pub mod NewEntry
-pub mod Answers

@@ -1,4 +1,3 @@
-pub mod Answers
 pub mod Counted
 pub mod Loaded
 pub mod Missed

@@ -18,7 +18,7 @@ use Rattle.rules.specs.declared.request.Access.{Access}
 use Rattle.layout.specs.Holds.{Holds}
 use Rattle.layout.specs.Picture.{cacheIn, restIn}
 use Rattle.room.proofs.Orders.{did-holds}
-use Rattle.room.proofs.Outcomes.{words-fit}
+use Rattle.room.proofs.Orders.{words-fit}
 use Rattle.room.specs.Did.{Did}
 use Rattle.table.proofs.Amended.{Keeps}
 use Rattle.protect.proofs.Counted.{Countable, count-asks, count-joins}

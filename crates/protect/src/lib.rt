@@ -1,34 +1,29 @@
-// Protect: a hit takes the hold, a miss loads the entry; then the access is counted.
+// Protect, where it is not refused: a hit takes the hold, a miss loads the entry; then the access is counted.
 ghost use mathlib.Core.Path.{_≡_};
 ghost use mathlib.Core.Bool.{true, false};
 ghost use mathlib.Core.List.{[]};
 ghost use mathlib.Core.Option.{none};
-ghost use Prim.Native.Nat.{ℕ, _≤_, _+_, _*_};
+ghost use Prim.Native.Nat.{_≤_, _+_, _*_};
 ghost use lib.ListN.{length};
 ghost use Rattle.rules.specs.declared.request.Request.the-variants.{Protect};
 ghost use Rattle.rules.specs.Allowed.{Allowed};
 ghost use Rattle.rules.specs.Cache.{start};
+ghost use Rattle.rules.specs.Entries.{forbids};
 ghost use Rattle.rules.specs.Hosts.{asking};
-ghost use Rattle.rules.specs.Refusals.{badAddress, badSize, tooFewWords};
-ghost use Rattle.rules.specs.Requests.{loaded, step};
+ghost use Rattle.rules.specs.Refusals.{badAddress, badSize, entryTest, noRow, tooFewWords};
+ghost use Rattle.rules.specs.Requests.{effect, hit, loaded, missed};
 ghost use Rattle.rules.specs.Rows.{get, hasFree};
-ghost use Rattle.layout.specs.Holds.{Good};
 ghost use Rattle.layout.specs.Picture.{cacheIn, restIn};
-ghost use Rattle.room.specs.Answered.{Answered};
+ghost use Rattle.refusals.specs.Unrefused.{Unrefused};
+ghost use Rattle.table.specs.Told.{foundIn};
 ghost use Rattle.room.specs.Did.{Did};
 ghost use Rattle.table.specs.Asked.{GoodRows, RowOf};
 use admission::admit;
-use admission::no_row;
-use entries::Verdict;
-use entries::first_tests;
-use entries::forbids;
 use entries::joined;
 use entries::new_entry;
 use entries::protected_for;
 use epoch::count_access;
 use layout::order::order_put;
-use rules::answer::Answer;
-use rules::answer::Refusal;
 use rules::entry::Hold;
 use rules::order::Kind;
 use rules::order::Order;
@@ -37,7 +32,6 @@ use table::changes::add_entry;
 use table::header::row_count;
 use table::lookup::Found;
 use table::lookup::entry_of;
-use table::lookup::find;
 use table::touch::touch_entry;
 
 // The load order, and the entry, clean and held.
@@ -72,59 +66,46 @@ fn miss(
     access: Access,
     address: u64,
     size: u64,
-) -> Answer
-    requires { ⌜ GoodRows (now table) rows × Allowed (cacheIn (now table)) × (get (cacheIn (now table) .rows) address ≡ none) × (tooFewWords (cacheIn (now table)) (length (now orders)) ≡ false) × (badAddress address ≡ false) × (badSize size ≡ false) ⌝ }
-    ensures { λ r. ⌜ Answered (step (cacheIn (now (table .entry))) (asking (Protect access address size) [] (length (now (orders .entry))))) (restIn (now (table .entry))) (now (table .exit)) (now (orders .entry)) (now (orders .exit)) r ⌝ }
+) -> usize
+    requires { ⌜ GoodRows (now table) rows × Allowed (cacheIn (now table)) × (get (cacheIn (now table) .rows) address ≡ none) × (tooFewWords (cacheIn (now table)) (length (now orders)) ≡ false) × (badAddress address ≡ false) × (badSize size ≡ false) × (noRow (cacheIn (now table)) ≡ false) ⌝ }
+    ensures { λ r. ⌜ Did (missed access address size (cacheIn (now (table .entry)))) (restIn (now (table .entry))) (now (table .exit)) 0 (now (orders .entry)) (now (orders .exit)) r ⌝ }
 {
-    if no_row(table, rows) {
-        return Answer::Refused(Refusal::Full);
-    }
     let evicted = admit(table, orders, rows, size);
     let loaded = load(table, orders, rows, access, address, size, evicted);
-    let given = count_access(table, orders, rows, false, loaded);
-    Answer::Accepted(given as u64)
+    count_access(table, orders, rows, false, loaded)
 }
 
-// The entry in a row, whatever size is named for it.
-fn hit(
+// The entry in a row.
+fn hit_row(
     table: &mut [u64],
     orders: &mut [u64],
     rows: usize,
     row: usize,
     access: Access,
     address: u64,
-) -> Answer
-    requires { ⌜ GoodRows (now table) rows × Allowed (cacheIn (now table)) × RowOf (cacheIn (now table) .rows) address row × (tooFewWords (cacheIn (now table)) (length (now orders)) ≡ false) × (badAddress address ≡ false) ⌝ }
-    ensures { λ r. ⌜ ((size : ℕ) → badSize size ≡ false → Answered (step (cacheIn (now (table .entry))) (asking (Protect access address size) [] (length (now (orders .entry))))) (restIn (now (table .entry))) (now (table .exit)) (now (orders .entry)) (now (orders .exit)) r) ⌝ }
+) -> usize
+    requires { ⌜ GoodRows (now table) rows × Allowed (cacheIn (now table)) × RowOf (cacheIn (now table) .rows) address row × (tooFewWords (cacheIn (now table)) (length (now orders)) ≡ false) × (entryTest (cacheIn (now table)) address (λ e. forbids (e .hold) access) ≡ false) ⌝ }
+    ensures { λ r. ⌜ Did (hit access address (cacheIn (now (table .entry)))) (restIn (now (table .entry))) (now (table .exit)) 0 (now (orders .entry)) (now (orders .exit)) r ⌝ }
 {
     let e = entry_of(table, rows, row, address);
-    let hold = e.hold;
-    if forbids(hold, access) {
-        return Answer::Refused(Refusal::Held);
-    }
     touch_entry(table, rows, row, protected_for(access, e));
-    let given = count_access(table, orders, rows, true, 0);
-    Answer::Accepted(given as u64)
+    count_access(table, orders, rows, true, 0)
 }
 
 pub fn protect(
     table: &mut [u64],
     orders: &mut [u64],
+    found: Found,
     access: Access,
     address: u64,
     size: u64,
-) -> Answer
-    requires { ⌜ Good (now table) × Allowed (cacheIn (now table)) ⌝ }
-    ensures { λ r. ⌜ Answered (step (cacheIn (now (table .entry))) (asking (Protect access address size) [] (length (now (orders .entry))))) (restIn (now (table .entry))) (now (table .exit)) (now (orders .entry)) (now (orders .exit)) r ⌝ }
+) -> usize
+    requires { ⌜ Unrefused (now table) (asking (Protect access address size) [] (length (now orders))) × (found ≡ foundIn (cacheIn (now table) .rows) address) ⌝ }
+    ensures { λ r. ⌜ Did (effect (cacheIn (now (table .entry))) [] (Protect access address size)) (restIn (now (table .entry))) (now (table .exit)) 0 (now (orders .entry)) (now (orders .exit)) r ⌝ }
 {
     let rows = row_count(table);
-    let verdict = first_tests(rows, orders.len(), address, size);
-    if let Verdict::Refused(refusal) = verdict {
-        return Answer::Refused(refusal);
-    }
-    let found = find(table, rows, address);
     match found {
         Found::Nothing => miss(table, orders, rows, access, address, size),
-        Found::At { place: _, row } => hit(table, orders, rows, row, access, address),
+        Found::At { place: _, row } => hit_row(table, orders, rows, row, access, address),
     }
 }

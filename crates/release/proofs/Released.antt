@@ -24,10 +24,10 @@ use Rattle.table.proofs.Told.{good-rows, told-address}
 use Rattle.table.specs.Asked.{GoodRows, RowOf}
 use Rattle.table.specs.Told.{become}
 use Rattle.room.proofs.Kept.{did-start}
-use Rattle.room.proofs.Outcomes.{words-fit}
+use Rattle.room.proofs.Orders.{words-fit}
 use Rattle.room.specs.Did.{Did, Fits}
 use Rattle.table.proofs.Amended.{Keeps, asks-touch, told-touch}
-use Rattle.sizes.proofs.Resized.{changed-keeps}
+use Rattle.resize.proofs.Resized.{changed-keeps}
 use Rattle.release.specs.Unheld.{roomUnlessHeld}
 
 -- ---- the entry

@@ -1,103 +1,44 @@
-// How the maximum changes, by value: the flash, the increase and the decrease. Every function answers at every input.
-ghost use mathlib.Core.Bool.{_||_};
+// A size named for an entry: resize, and what a changed release shares with it.
 ghost use mathlib.Core.Path.{_≡_};
-ghost use Prim.Native.Nat.{_+_, _-_, min, max};
-ghost use Rattle.settings.specs.Validation.{increases, decreases};
-ghost use Rattle.rules.specs.Resizing.{flashMaximum, atMost, increasedBy, atLeast, lowered};
-use settings::Cap;
-use settings::Decrease;
-use settings::Flash;
-use settings::Increase;
+ghost use mathlib.Core.Bool.{false};
+ghost use mathlib.Core.Option.{some};
+ghost use mathlib.Core.List.{[]};
+ghost use Rattle.rules.specs.declared.request.Request.the-variants.{Resize};
+ghost use Rattle.rules.specs.Hosts.{asking};
+ghost use Rattle.rules.specs.Refusals.{badSize};
+ghost use Rattle.rules.specs.Requests.{named, effect};
+ghost use Rattle.rules.specs.Rows.{get};
+ghost use Rattle.layout.specs.Picture.{cacheIn, restIn};
+ghost use Rattle.layout.specs.Holds.{Holds};
+ghost use Rattle.table.specs.Asked.{GoodRows, RowOf};
+ghost use Rattle.refusals.specs.Unrefused.{Unrefused};
+use entries::changed_to;
+use entries::count_with;
+use rules::entry::Entry;
+use table::changes::set_entry;
+use table::header::count;
+use table::header::row_count;
+use table::header::set_count;
+use table::lookup::entry_of;
 
-// The smaller of two.
-pub fn least(a: u64, b: u64) -> u64
-    ensures { λ r. ⌜ r ≡ min a b ⌝ }
+// A size named for an entry: the flash by its growth, and the byte count if it was clean.
+pub fn name_size(table: &mut [u64], rows: usize, e: Entry, size: u64)
+    requires { ⌜ GoodRows (now table) rows × (get (cacheIn (now table) .rows) (e .address) ≡ some e) × (badSize size ≡ false) ⌝ }
+    ensures { λ _. ⌜ Holds (now (table .exit)) (named (e .address) size (cacheIn (now (table .entry)))) (restIn (now (table .entry))) ⌝ }
 {
-    if a <= b { a } else { b }
-}
-
-// The larger of two.
-pub fn most(a: u64, b: u64) -> u64
-    ensures { λ r. ⌜ r ≡ max a b ⌝ }
-{
-    if a <= b { b } else { a }
-}
-
-// a less b, not below 0.
-pub fn less(a: u64, b: u64) -> u64
-    ensures { λ r. ⌜ r ≡ a - b ⌝ }
-{
-    if b <= a { a - b } else { 0 }
-}
-
-// a plus b, not above top.
-pub fn plus(a: u64, b: u64, top: u64) -> u64
-    ensures { λ r. ⌜ r ≡ min (a + b) top ⌝ }
-{
-    if top <= a {
-        return top;
+    flash::flash(table, rows, new_maximum::less(size, e.size));
+    if e.dirty {
+        return;
     }
-    if b < top - a { a + b } else { top }
+    set_count(table, count_with(size, count(table)));
 }
 
-// The maximum after a flash of x bytes.
-pub fn flash_maximum(rule: Flash, x: u64, maximum: u64, held: u64, largest: u64) -> u64
-    ensures { λ r. ⌜ r ≡ flashMaximum rule x maximum held largest ⌝ }
+pub fn resize(table: &mut [u64], row: usize, address: u64, size: u64)
+    requires { ⌜ Unrefused (now table) (asking (Resize address size) [] 0) × RowOf (cacheIn (now table) .rows) address row ⌝ }
+    ensures { λ _. ⌜ Holds (now (table .exit)) (effect (cacheIn (now (table .entry))) [] (Resize address size) .cache) (restIn (now (table .entry))) ⌝ }
 {
-    match rule {
-        Flash::Off => maximum,
-        Flash::On {
-            multiple,
-            threshold,
-        } => {
-            if fraction::exceeds_share(x, threshold, maximum) {
-                let rise = less(fraction::size_product(x, multiple), less(maximum, held));
-                return plus(maximum, rise, largest);
-            }
-            maximum
-        }
-    }
-}
-
-// n, not above the maximum plus the cap.
-fn at_most(cap: Cap, maximum: u64, n: u64) -> u64
-    ensures { λ r. ⌜ r ≡ atMost cap maximum n ⌝ }
-{
-    match cap {
-        Cap::None => n,
-        Cap::Upto(bytes) => plus(maximum, bytes, n),
-    }
-}
-
-// The maximum after the increase rule.
-pub fn increased(rule: Increase, cap: Cap, rate: f64, full: bool, maximum: u64, largest: u64) -> u64
-    ensures { λ r. ⌜ r ≡ increasedBy rule cap rate full maximum largest ⌝ }
-{
-    match rule {
-        Increase::Off => maximum,
-        Increase::Threshold { lower, multiplier } => {
-            if (rate < lower) & full {
-                let n = least(fraction::size_product(maximum, multiplier), largest);
-                return at_most(cap, maximum, n);
-            }
-            maximum
-        }
-    }
-}
-
-// n, not below the maximum less the cap.
-fn at_least(cap: Cap, maximum: u64, n: u64) -> u64
-    ensures { λ r. ⌜ r ≡ atLeast cap maximum n ⌝ }
-{
-    match cap {
-        Cap::None => n,
-        Cap::Upto(bytes) => most(n, less(maximum, bytes)),
-    }
-}
-
-// The maximum lowered to a target.
-pub fn lowered(target: u64, cap: Cap, maximum: u64, smallest: u64) -> u64
-    ensures { λ r. ⌜ r ≡ lowered target cap maximum smallest ⌝ }
-{
-    least(maximum, at_least(cap, maximum, most(target, smallest)))
+    let rows = row_count(table);
+    let e = entry_of(table, rows, row, address);
+    name_size(table, rows, e, size);
+    set_entry(table, rows, row, changed_to(size, e));
 }

@@ -4,7 +4,7 @@ pub mod Joined
 pub mod Kept
 pub mod Making
 pub mod Orders
-pub mod Outcomes
+pub mod Answered
 pub mod Tail
 pub mod ToDo
 pub mod Writing

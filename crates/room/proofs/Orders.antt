@@ -1,9 +1,13 @@
 -- Orders put into the words lent for them, one after the other.
-use Prim.Native.Nat.{ℕ, suc, _+_}
+use Prim.Native.Nat.{ℕ, suc, _+_, _*_}
+use mathlib.Core.Bool.{false}
 use mathlib.Core.List.{List, [], _∷_, _++_}
 use mathlib.Core.Path.{_≡_, refl, sym, ap, _∙_}
 use native.Mathlib.Omega.{arith}
+use lib.Dec.{ltb}
 use lib.ListN.{length, length-append}
+use borrow.Author.Tests.{ltb-false}
+use Rattle.rules.proofs.Moved.{left-most}
 use Rattle.rules.specs.Cache.{Cache, Work, start}
 use Rattle.rules.specs.declared.order.Order.{Order}
 use Rattle.layout.proofs.Held.{onward}
@@ -11,7 +15,7 @@ use Rattle.layout.specs.Holds.{Holds}
 use Rattle.layout.specs.Leaves.{putOrder}
 use Rattle.layout.specs.Picture.{cacheIn, restIn}
 use Rattle.room.specs.After.{after}
-use Rattle.room.specs.Did.{putOrders, Did}
+use Rattle.room.specs.Did.{putOrders, Did, Fits}
 
 pub put-none : (n : ℕ) (ws : List ℕ) → ws ≡ putOrders n [] ws
 unfolding putOrders
@@ -45,3 +49,10 @@ did-onward f d k = record { holds = onward f (d .holds) k; orders = d .orders; n
 -- a change with no order
 pub did-holds : {d : Cache} {rest table lent : List ℕ} {before : ℕ} → Holds table d rest → Did (start d) rest table before lent lent before
 did-holds {lent = lent} {before} h = record { holds = h; orders = put-none before lent; number = omega arith }
+
+-- if the words lent suffice, every order of a cache with as many rows fits: each row gives at most two
+pub words-fit : (c d : Cache) (lent : List ℕ) → ltb (length lent) (3 * (2 * length (c .rows) + 1)) ≡ false → length (d .rows) ≡ length (c .rows) → Fits d 0 lent
+words-fit c d lent t e =
+    let m = left-most (d .rows) in
+    let l = ltb-false (length lent) (3 * (2 * length (c .rows) + 1)) t in
+    omega arith

@@ -7,12 +7,8 @@ use Rattle.rules.specs.Requests.{Outcome}
 use Rattle.layout.specs.Holds.{Holds}
 use Rattle.room.specs.Did.{putOrders}
 
--- The answer is the outcome's, and the table holds its cache.
-pub record Changed (o : Outcome) (rest table : List ℕ) (r : Answer) : Type 0 where
+-- The answer is the outcome's, the table holds its cache, and the words lent have its orders.
+pub record Answered (o : Outcome) (rest table lent words : List ℕ) (r : Answer) : Type 0 where
   pub answer : r ≡ o .answer
   pub holds : Holds table (o .cache) rest
-
--- And the words lent have its orders.
-pub record Answered (o : Outcome) (rest table lent words : List ℕ) (r : Answer) : Type 0 where
-  pub changed : Changed o rest table r
   pub orders : words ≡ putOrders 0 (o .orders) lent

@@ -23,8 +23,8 @@ fn clean_wanted(table: &[u64], rows: usize, size: u64) -> u64
 {
     let maximum = maximum(table);
     let s = settings(table);
-    let unused = resize::less(maximum, held_bytes(table, rows) + size);
-    resize::less(fraction::size_product(maximum, s.clean), unused)
+    let unused = new_maximum::less(maximum, held_bytes(table, rows) + size);
+    new_maximum::less(fraction::size_product(maximum, s.clean), unused)
 }
 
 // From the tail, while fewer bytes of the recency list are clean than wanted, each dirty entry is

@@ -1,9 +1,12 @@
 -- The answers in document 01's numbering.
 use Prim.Native.Nat.{ℕ}
+use mathlib.Core.Option.{Option, none, some}
 use Rattle.rules.specs.declared.answer.Answer.{Answer}
 use Rattle.rules.specs.declared.answer.Answer.the-variants.{Accepted, Refused}
 use Rattle.rules.specs.declared.answer.Refusal.{Refusal}
 use Rattle.rules.specs.declared.answer.Refusal.the-variants as refusal
+use Rattle.rules.specs.declared.answer.Verdict.{Verdict}
+use Rattle.rules.specs.declared.answer.Verdict.the-variants as verdict
 
 abbrev pub refusalNumber : Refusal → ℕ
 refusalNumber refusal.Table = 1
@@ -49,3 +52,22 @@ answerField (Refused r) = refusalField r
 abbrev pub answerOrders : Answer → ℕ
 answerOrders (Accepted orders) = orders
 answerOrders (Refused r) = 0
+
+-- ---- verdicts
+
+abbrev pub verdictOf : Option Refusal → Verdict
+verdictOf none = verdict.Accepted
+verdictOf (some r) = verdict.Refused r
+
+-- The verdict that an answer carries.
+abbrev pub verdictIn : Answer → Verdict
+verdictIn (Accepted orders) = verdict.Accepted
+verdictIn (Refused r) = verdict.Refused r
+
+abbrev pub verdictNumber : Verdict → ℕ
+verdictNumber verdict.Accepted = 0
+verdictNumber (verdict.Refused r) = refusalNumber r
+
+abbrev pub verdictField : Verdict → ℕ
+verdictField verdict.Accepted = 0
+verdictField (verdict.Refused r) = refusalField r

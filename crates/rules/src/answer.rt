@@ -35,3 +35,9 @@ pub enum Answer {
     Accepted(u64),
     Refused(Refusal),
 }
+
+// What a request would be answered: accepted, or why not.
+pub enum Verdict {
+    Accepted,
+    Refused(Refusal),
+}

@@ -1,4 +1,4 @@
--- The three functions over numbers: what each answers and leaves, on any input.
+-- The four functions over numbers: what each answers and leaves, on any input.
 use Prim.Native.Nat.{ℕ}
 use mathlib.Core.List.{List}
 use mathlib.Core.Option.{Option, Option·getD}
@@ -6,17 +6,21 @@ use lib.Dec.{leb}
 use lib.ListN.{length}
 use Rattle.settings.specs.declared.Settings.{Settings}
 use Rattle.settings_words.specs.Words.{flagWord}
-use Rattle.rules.specs.Answers.{answerNumber, answerField, answerOrders}
+use Rattle.rules.specs.Answers.{answerNumber, answerField, answerOrders, verdictNumber, verdictField}
 use Rattle.rules.specs.Cache.{fresh}
 use Rattle.rules.specs.Entries.{if_then_else_}
 use Rattle.rules.specs.Opening.{refusalOfOpening}
 use Rattle.rules.specs.declared.answer.Answer.{Answer}
 use Rattle.rules.specs.declared.answer.Answer.the-variants.{Refused}
+use Rattle.rules.specs.declared.answer.Refusal.{Refusal}
 use Rattle.rules.specs.declared.answer.Refusal.the-variants as refusal
+use Rattle.rules.specs.declared.answer.Verdict.{Verdict}
+use Rattle.rules.specs.declared.answer.Verdict.the-variants as verdict
 use Rattle.rules.specs.declared.request.Mode.{Mode}
 use Rattle.rules.specs.declared.request.Mode.the-variants.{Alone}
 use Rattle.layout.specs.Layout.{layoutWords}
 use Rattle.judge.specs.Verdict.{judgeWords}
+use Rattle.cache.specs.Asked.{askWords}
 use Rattle.cache.specs.Tables.{Left, left, stepWords, Opened, openedWith, reportWords}
 use Rattle.cache.specs.declared.reporting.Reported.{Reported}
 use Rattle.speldervacht.specs.Meanings.{modeOfRaw, settingsOfRaw, askedOfRaw}
@@ -24,6 +28,7 @@ use Rattle.speldervacht.specs.declared.raw.RawAnswer.{RawAnswer}
 use Rattle.speldervacht.specs.declared.raw.RawFigures.{RawFigures}
 use Rattle.speldervacht.specs.declared.raw.RawRequest.{RawRequest}
 use Rattle.speldervacht.specs.declared.raw.RawSettings.{RawSettings}
+use Rattle.speldervacht.specs.declared.raw.RawVerdict.{RawVerdict}
 use Rattle.speldervacht.specs.declared.request.Asked.{Asked}
 use Rattle.speldervacht.specs.declared.request.Asked.the-variants.{Known, Unknown}
 
@@ -65,12 +70,12 @@ abbrev pub afterStep : RawAnswer → List ℕ → List ℕ → AfterStep
 afterStep a table orders = record { answer = a; table = table; orders = orders }
 
 -- A request of no known kind is meant for no mode: 5, or 1 if the words picture no cache.
-abbrev pub unknownRefusal : List ℕ → Answer
-unknownRefusal table = Refused (if judgeWords table then refusal.Mode else refusal.Table)
+abbrev pub unknownRefusal : List ℕ → Refusal
+unknownRefusal table = if judgeWords table then refusal.Mode else refusal.Table
 
 -- By `stepWords` of crate cache; a request of no known kind changes no word.
 abbrev pub stepAsked : List ℕ → List ℕ → List ℕ → Asked → Left
-stepAsked table orders list Unknown = left (unknownRefusal table) table orders
+stepAsked table orders list Unknown = left (Refused (unknownRefusal table)) table orders
 stepAsked table orders list (Known r) = stepWords table orders list r
 
 abbrev pub leftNumbers : Left → AfterStep
@@ -78,6 +83,20 @@ leftNumbers x = afterStep (answerNumbers (x .answer)) (x .table) (x .orders)
 
 unfoldable pub stepNumbers : List ℕ → List ℕ → List ℕ → RawRequest → AfterStep
 stepNumbers table orders list w = leftNumbers (stepAsked table orders list (askedOfRaw w))
+
+-- ---- asking
+
+-- A verdict in document 01's numbering.
+abbrev pub verdictNumbers : Verdict → RawVerdict
+verdictNumbers v = record { number = verdictNumber v; field = verdictField v }
+
+-- By `askWords` of crate cache; a request of no known kind as a step answers it.
+abbrev pub askAsked : List ℕ → ℕ → List ℕ → Asked → Verdict
+askAsked table lent list Unknown = verdict.Refused (unknownRefusal table)
+askAsked table lent list (Known r) = askWords table lent list r
+
+unfoldable pub askNumbers : List ℕ → ℕ → List ℕ → RawRequest → RawVerdict
+askNumbers table lent list w = verdictNumbers (askAsked table lent list (askedOfRaw w))
 
 -- ---- the report
 

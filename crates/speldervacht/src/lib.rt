@@ -1,4 +1,4 @@
-// The cache for C: three functions, which include/speldervacht.h declares and explains.
+// The cache for C: four functions, which include/speldervacht.h declares and explains.
 //
 // The host lends the table, the words for orders and the list, each as a pointer and a length. All
 // else is numbers and structs of numbers. Each function answers whatever the numbers and words are.
@@ -7,17 +7,19 @@
 //     setting    the settings that numbers stand for
 //     request    the request that numbers stand for
 //     answer     an answer as numbers
+//     verdict    a verdict as numbers
 //     figures    a report as numbers
 ghost use mathlib.Core.Path.{_≡_};
 ghost use Rattle.cache.specs.Tables.{opened};
 ghost use Rattle.speldervacht.specs.Meanings.{modeOfRaw};
-ghost use Rattle.speldervacht.specs.Numbers.{openIn, afterOpen, openNumbers, unknownRefusal, afterStep, stepNumbers, reportNumbers};
+ghost use Rattle.speldervacht.specs.Numbers.{openIn, afterOpen, openNumbers, unknownRefusal, afterStep, stepNumbers, askNumbers, reportNumbers};
 
 mod answer;
 mod figures;
 mod raw;
 mod request;
 mod setting;
+mod verdict;
 
 use answer::answer_of;
 use figures::figures_of;
@@ -26,13 +28,16 @@ use raw::RawAnswer;
 use raw::RawFigures;
 use raw::RawRequest;
 use raw::RawSettings;
+use raw::RawVerdict;
 use request::Asked;
 use request::request_of;
 use rules::answer::Answer;
 use rules::answer::Refusal;
+use rules::answer::Verdict;
 use rules::request::Mode;
 use setting::settings_of;
 use settings::Settings;
+use verdict::verdict_of;
 
 // Opens by the mode's number: 0 alone, 1 lead, 2 standby. An unknown mode is refused as a threshold
 // of 0 is: 5, unless the rows or the table are at fault.
@@ -62,13 +67,13 @@ pub extern "C" fn speldervacht_open(
 }
 
 // A request of no known kind: 1 if the table pictures no cache, else 5.
-fn refuse_unknown(table: &[u64]) -> Answer
+fn unknown_refusal(table: &[u64]) -> Refusal
     ensures { λ r. ⌜ r ≡ unknownRefusal (now (table .entry)) ⌝ }
 {
     if judge(table) {
-        return Answer::Refused(Refusal::Mode);
+        return Refusal::Mode;
     }
-    Answer::Refused(Refusal::Table)
+    Refusal::Table
 }
 
 // Does one request on the cache in the table.
@@ -83,7 +88,23 @@ pub extern "C" fn speldervacht_step(
 {
     match request_of(request) {
         Asked::Known(known) => answer_of(cache::step(table, orders, list, known)),
-        Asked::Unknown => answer_of(refuse_unknown(table)),
+        Asked::Unknown => answer_of(Answer::Refused(unknown_refusal(table))),
+    }
+}
+
+// Tells what speldervacht_step would answer to a request, with so many order words lent for it.
+#[no_mangle]
+pub extern "C" fn speldervacht_ask(
+    table: &[u64],
+    lent: usize,
+    list: &[u64],
+    request: RawRequest,
+) -> RawVerdict
+    ensures { λ r. ⌜ r ≡ askNumbers (now (table .entry)) lent (now (list .entry)) request ⌝ }
+{
+    match request_of(request) {
+        Asked::Known(known) => verdict_of(cache::ask(table, lent, list, known)),
+        Asked::Unknown => verdict_of(Verdict::Refused(unknown_refusal(table))),
     }
 }
 

@@ -70,6 +70,13 @@ pub struct RawAnswer {
     pub orders: u64,
 }
 
+// struct speldervacht_verdict
+#[repr(C)]
+pub struct RawVerdict {
+    pub number: u64,
+    pub field: u64,
+}
+
 // struct speldervacht_figures
 #[repr(C)]
 pub struct RawFigures {

@@ -9,14 +9,14 @@ use Rattle.configure.proofs.set_all.Tie as tie
 maximum-requires : tie.Need-maximum-requires
 maximum-requires c κs = search needs
 
-new-maximum-requires : tie.Need-new-maximum-requires
-new-maximum-requires c κs = search needs
+configured-maximum-requires : tie.Need-configured-maximum-requires
+configured-maximum-requires c κs = search needs
 
 set-settings-requires : tie.Need-set-settings-requires
 set-settings-requires c κs =
     let s = c .before .before .before .before .before in
     let g = s .pre .0 in
-    (g, settable (s .args .s) (cacheIn (s .args .table .now)) (c .before .before .maximum .result) (c .before .new-maximum .result) (c .before .before .maximum .ensures) (c .before .new-maximum .ensures) (s .pre .1) (g .steady .count))
+    (g, settable (s .args .s) (cacheIn (s .args .table .now)) (c .before .before .maximum .result) (c .before .configured-maximum .result) (c .before .before .maximum .ensures) (c .before .configured-maximum .ensures) (s .pre .1) (g .steady .count))
 
 set-counters-requires : tie.Need-set-counters-requires
 set-counters-requires c κs = holds-good (c .before .before .before .set-settings .ensures)
@@ -27,14 +27,14 @@ same-length c = search needs
 returns : tie.Need-returns
 returns c =
     let s = c .before .before .before .before .before .before .before .before .before .before .before .before in
-    configured-held (s .args .s) (cacheIn (s .args .table .now)) (c .before .before .before .before .before .before .before .before .before .maximum .result) (c .before .before .before .before .before .before .before .before .new-maximum .result) (c .before .before .before .before .before .before .before .before .before .maximum .ensures) (c .before .before .before .before .before .before .before .before .new-maximum .ensures) (c .before .before .before .before .before .before .set-settings .ensures) (c .before .before .set-counters .ensures)
+    configured-held (s .args .s) (cacheIn (s .args .table .now)) (c .before .before .before .before .before .before .before .before .before .maximum .result) (c .before .before .before .before .before .before .before .before .configured-maximum .result) (c .before .before .before .before .before .before .before .before .before .maximum .ensures) (c .before .before .before .before .before .before .before .before .configured-maximum .ensures) (c .before .before .before .before .before .before .set-settings .ensures) (c .before .before .set-counters .ensures)
 
 pub set-all-spec : {M : Type 1} → statement M
 set-all-spec =
     tie.close
     (tie.spec
     maximum-requires
-    new-maximum-requires
+    configured-maximum-requires
     set-settings-requires
     set-counters-requires
     same-length

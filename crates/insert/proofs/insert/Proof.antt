@@ -1,86 +1,57 @@
--- The tests are the rules', in their order; an address that is not found has the rest.
-use mathlib.Core.Path.{sym, _∙_}
-use lib.ListN.{length}
-use borrow.Author.Needs.{needs}
+-- Room is made as the rules make it, which leaves a free row and no entry at the address; the new entry gives no order.
+use mathlib.Core.Path.{refl}
+use Rattle.rules.proofs.Effects.{size-most}
+use Rattle.rules.specs.Requests.{effect}
 use Rattle.layout.specs.Picture.{cacheIn}
-use Rattle.table.proofs.Told.{found-at, found-no}
-use Rattle.room.proofs.Outcomes.{refused-told, proceed-told}
-use Rattle.insert.proofs.Answers.{insert-first, insert-present}
+use Rattle.room.proofs.Orders.{did-onward}
+use Rattle.room.proofs.Orders.{words-fit}
+use Rattle.admission.proofs.Admitted.{admitted-good, admitted-free, admitted-absent}
+use Rattle.insert.specs.Inserted.{insertedIn}
+use Rattle.refusals.proofs.Unrefused.{insertable}
+use lib.ListN.{length}
+use native.Mathlib.Omega.{arith}
+use borrow.Author.Needs.{needs}
 use Rattle.insert.proofs.insert.Statement.{statement}
 use Rattle.insert.proofs.insert.Tie as tie
 
 row-count-requires : tie.Need-row-count-requires
 row-count-requires c κs = search needs
 
-first-tests-requires : tie.Need-first-tests-requires
-first-tests-requires c κs = search needs
+admit-requires : tie.Need-admit-requires
+admit-requires c κs =
+    let s = c .before .before .before .before .before .before in
+    let d = cacheIn (s .args .table .now) in
+    let i = insertable d (length (s .args .orders .now)) (s .args .address) (s .args .size) (s .pre .accepted) in
+    (record { good = s .pre .good; size = c .before .before .row-count .ensures }, omega (arith, size-most (s .args .size) (i .size)), words-fit d d (s .args .orders .now) (i .words) refl)
 
-enum-known-verdict : tie.Need-enum-known-verdict
-enum-known-verdict c = search needs
+add-dirty-requires : tie.Need-add-dirty-requires
+add-dirty-requires c κs =
+    let s = c .before .before .before .before .before .before .before .before .before .before .before .before in
+    let d = cacheIn (s .args .table .now) in
+    let i = insertable d (length (s .args .orders .now)) (s .args .address) (s .args .size) (s .pre .accepted) in
+    let k = s .pre .good .steady .sound in
+    let w = c .before .before .before .before .before .admit .ensures in
+    (admitted-good d (s .args .address) (s .args .size) k (i .new) (i .row) w (c .before .before .before .before .before .before .before .before .row-count .ensures), admitted-free d (s .args .address) (s .args .size) k (i .new) (i .row) w, admitted-absent d (s .args .address) (s .args .size) k (i .new) (i .row) w, i .address, i .size)
 
 same-length : tie.Need-same-length
 same-length c = search needs
 
-returns : tie.Need-returns
-returns c =
-    let s = c .before .before .before .before .before .before .before .before in
-    let e = refused-told (length (s .args .orders .now)) (s .args .address) (s .args .size) (c .before .before .before .before .row-count .ensures) (c .before .before .before .first-tests .ensures) (c .before .verdict .given .1) in
-    insert-first (s .args .address) (s .args .size) (s .args .orders .now) (s .pre) _ e
-
-enum-told : tie.Need-enum-told
-enum-told c = search needs
-
-find-requires : tie.Need-find-requires
-find-requires c κs = search needs
-
-enum-told-2 : tie.Need-enum-told-2
-enum-told-2 c = search needs
-
-insert-new-requires : tie.Need-insert-new-requires
-insert-new-requires c κs =
-    let s = c .before .before .before .before .before .before .before .before .before .before .before .before .before in
-    let p = proceed-told (length (s .args .orders .now)) (s .args .address) (s .args .size) (c .before .before .before .before .before .before .before .before .before .row-count .ensures) (c .before .before .before .before .before .before .before .before .first-tests .ensures) (c .before .before .before .before .before .before .enum-told .given .1) in
-    let n = found-no (cacheIn (s .args .table .now) .rows) (s .args .address) (sym (c .before .before .before .before .find .ensures) ∙ c .before .before .enum-told2 .given .1) in
-    (record { good = s .pre; size = c .before .before .before .before .before .before .before .before .before .row-count .ensures }, n, p .words, p .address, p .size)
-
-enum-told-3 : tie.Need-enum-told-3
-enum-told-3 c = search needs
-
 same-length-2 : tie.Need-same-length-2
 same-length-2 c = search needs
 
-same-length-3 : tie.Need-same-length-3
-same-length-3 c = search needs
-
-returns-2 : tie.Need-returns-2
-returns-2 c = search needs
-
-same-length-4 : tie.Need-same-length-4
-same-length-4 c = search needs
-
-returns-3 : tie.Need-returns-3
-returns-3 c =
-    let s = c .before .before .before .before .before .before .before .before .before .before .before in
-    let p = proceed-told (length (s .args .orders .now)) (s .args .address) (s .args .size) (c .before .before .before .before .before .before .before .row-count .ensures) (c .before .before .before .before .before .before .first-tests .ensures) (c .before .before .before .before .enum-told .given .1) in
-    let f = found-at (cacheIn (s .args .table .now) .rows) (s .args .address) _ _ (sym (c .before .before .find .ensures) ∙ c .enum-told3 .given .1) in
-    insert-present (s .args .address) (s .args .size) (s .args .orders .now) (s .pre) (p .words) (p .address) (p .size) (f .0 .here)
+returns : tie.Need-returns
+unfolding effect
+returns c =
+    let s = c .before .before .before .before .before .before .before .before .before .before .before .before .before .before .before in
+    did-onward (insertedIn (s .args .address) (s .args .size)) (c .before .before .before .before .before .before .before .before .admit .ensures) (c .before .before .add-dirty .ensures)
 
 pub insert-spec : {M : Type 1} → statement M
 insert-spec =
     tie.close
     (tie.spec
     row-count-requires
-    first-tests-requires
-    enum-known-verdict
+    admit-requires
+    add-dirty-requires
     same-length
-    returns
-    enum-told
-    find-requires
-    enum-told-2
-    insert-new-requires
-    enum-told-3
     same-length-2
-    same-length-3
-    returns-2
-    same-length-4
-    returns-3)
+    returns)

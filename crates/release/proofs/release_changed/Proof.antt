@@ -1,86 +1,84 @@
--- The words, the address and the size are tested first, then the address is found; where it is found, its row's function has the rest.
-use mathlib.Core.Path.{sym, _∙_}
+-- Naming the size keeps the entry's row, it is touched there with the size and a hold less, and the hold that is left decides whether room is made.
+use mathlib.Core.Path.{ap, _∙_}
 use lib.ListN.{length}
-use borrow.Author.Needs.{needs}
+use Rattle.rules.specs.Entries.{released}
+use Rattle.rules.specs.Requests.{effect}
 use Rattle.layout.specs.Picture.{cacheIn}
-use Rattle.room.proofs.Outcomes.{refused-told, proceed-told}
-use Rattle.table.proofs.Told.{found-at, found-absent}
-use Rattle.release.proofs.Answers.{changed-first, changed-absent}
+use Rattle.rules.proofs.Effects.{named-books}
+use Rattle.resize.proofs.Resized.{own-get}
+use Rattle.release.proofs.Released.{changed, changedReleased, named-here, touch-asked, room-asked, room-told}
+use Rattle.refusals.proofs.Unrefused.{changeable}
+use borrow.Author.Needs.{needs}
 use Rattle.release.proofs.release_changed.Statement.{statement}
 use Rattle.release.proofs.release_changed.Tie as tie
 
 row-count-requires : tie.Need-row-count-requires
 row-count-requires c κs = search needs
 
-first-tests-requires : tie.Need-first-tests-requires
-first-tests-requires c κs = search needs
+entry-of-requires : tie.Need-entry-of-requires
+entry-of-requires c κs = search needs
 
-enum-known-verdict : tie.Need-enum-known-verdict
-enum-known-verdict c = search needs
+name-size-requires : tie.Need-name-size-requires
+name-size-requires c κs =
+    let s = c .before .before .before .before .before .before .before in
+    let e = c .before .entry-of in
+    ((record { good = s .pre .0 .good; size = c .before .before .before .row-count .ensures }), own-get ((cacheIn (s .args .table .now)) .rows) (s .args .address) (e .result) (e .ensures), changeable (cacheIn (s .args .table .now)) (length (s .args .orders .now)) (s .args .address) (s .args .size) (s .pre .0 .accepted) .size)
+
+changed-to-requires : tie.Need-changed-to-requires
+changed-to-requires c κs = search needs
+
+released-requires : tie.Need-released-requires
+released-requires c κs = search needs
+
+touch-entry-requires : tie.Need-touch-entry-requires
+touch-entry-requires c κs =
+    let s = c .before .before .before .before .before .before .before .before .before .before .before .before .before in
+    let e = c .before .before .before .before .before .before .before .entry-of in
+    let b = (cacheIn (s .args .table .now)) in
+    let f = changeable b (length (s .args .orders .now)) (s .args .address) (s .args .size) (s .pre .0 .accepted) in
+    let h = named-here b (s .args .address) (s .args .size) (e .result) (e .ensures) (c .before .before .before .before .before .name-size .ensures) in
+    touch-asked (changedReleased (s .args .size)) (changed (s .args .size) (e .result) (f .size)) (c .released .ensures ∙ ap released (c .before .changed-to .ensures)) b (named-books (s .args .address) (s .args .size) b .rows) h (c .before .before .before .before .before .before .before .before .before .row-count .ensures) (c .before .before .before .before .before .before .before .before .before .before .before .before .before .pre .1) (e .ensures)
+
+less-one-requires : tie.Need-less-one-requires
+less-one-requires c κs = search needs
+
+room-unless-held-requires : tie.Need-room-unless-held-requires
+room-unless-held-requires c κs =
+    let s = c .before .before .before .before .before .before .before .before .before .before .before .before .before .before .before .before .before .before .before in
+    let e = c .before .before .before .before .before .before .before .before .before .before .before .before .before .entry-of in
+    let b = (cacheIn (s .args .table .now)) in
+    let f = changeable b (length (s .args .orders .now)) (s .args .address) (s .args .size) (s .pre .0 .accepted) in
+    let h = named-here b (s .args .address) (s .args .size) (e .result) (e .ensures) (c .before .before .before .before .before .before .before .before .before .before .before .name-size .ensures) in
+    room-asked (changedReleased (s .args .size)) (changed (s .args .size) (e .result) (f .size)) (c .before .before .before .before .before .before .released .ensures ∙ ap released (c .before .before .before .before .before .before .before .changed-to .ensures)) b (named-books (s .args .address) (s .args .size) b .rows) h (c .before .before .before .before .before .before .before .before .before .before .before .before .before .before .before .row-count .ensures) (c .before .before .before .before .before .before .before .before .before .before .before .before .before .before .before .before .before .before .before .pre .1) (e .ensures) (c .before .before .before .before .before .touch-entry .ensures) (s .args .orders .now) (f .words)
 
 same-length : tie.Need-same-length
 same-length c = search needs
 
-returns : tie.Need-returns
-returns c =
-    let s = c .before .before .before .before .before .before .before .before in
-    let e = refused-told (length (s .args .orders .now)) (s .args .address) (s .args .size) (c .before .before .before .before .row-count .ensures) (c .before .before .before .first-tests .ensures) (c .before .verdict .given .1) in
-    changed-first (s .args .address) (s .args .size) (s .args .orders .now) (s .pre) _ e
-
-enum-told : tie.Need-enum-told
-enum-told c = search needs
-
-find-requires : tie.Need-find-requires
-find-requires c κs = search needs
-
-enum-told-2 : tie.Need-enum-told-2
-enum-told-2 c = search needs
-
-enum-known-found : tie.Need-enum-known-found
-enum-known-found c = search needs
-
-release-changed-row-requires : tie.Need-release-changed-row-requires
-release-changed-row-requires c κs =
-    let s = c .before .before .before .before .before .before .before .before .before .before .before .before .before .before in
-    let p = proceed-told (length (s .args .orders .now)) (s .args .address) (s .args .size) (c .before .before .before .before .before .before .before .before .before .before .row-count .ensures) (c .before .before .before .before .before .before .before .before .before .first-tests .ensures) (c .before .before .before .before .before .before .before .enum-told .given .1) in
-    let f = found-at (cacheIn (s .args .table .now) .rows) (s .args .address) _ _ (sym (c .before .before .before .before .before .find .ensures) ∙ c .before .before .before .found .given .1) in
-    (record { good = s .pre; size = c .before .before .before .before .before .before .before .before .before .before .row-count .ensures }, f .0, p .words, p .address, p .size)
-
 same-length-2 : tie.Need-same-length-2
 same-length-2 c = search needs
 
-returns-2 : tie.Need-returns-2
-returns-2 c =
-    let s = c .before .before .before .before .before .before .before .before .before .before .before in
-    let p = proceed-told (length (s .args .orders .now)) (s .args .address) (s .args .size) (c .before .before .before .before .before .before .before .row-count .ensures) (c .before .before .before .before .before .before .first-tests .ensures) (c .before .before .before .before .enum-told .given .1) in
-    let n = found-absent (cacheIn (s .args .table .now) .rows) (s .args .address) (sym (c .before .before .find .ensures) ∙ c .enum-told2 .given .1) in
-    changed-absent (s .args .address) (s .args .size) (s .args .orders .now) (s .pre) (p .words) (p .address) (p .size) n
-
-same-length-3 : tie.Need-same-length-3
-same-length-3 c = search needs
-
-same-length-4 : tie.Need-same-length-4
-same-length-4 c = search needs
-
-returns-3 : tie.Need-returns-3
-returns-3 c = search needs
+returns : tie.Need-returns
+unfolding effect
+returns c =
+    let s = c .before .before .before .before .before .before .before .before .before .before .before .before .before .before .before .before .before .before .before .before .before .before .before .before in
+    let e = c .before .before .before .before .before .before .before .before .before .before .before .before .before .before .before .before .before .before .entry-of in
+    let b = (cacheIn (s .args .table .now)) in
+    let f = changeable b (length (s .args .orders .now)) (s .args .address) (s .args .size) (s .pre .0 .accepted) in
+    let h = named-here b (s .args .address) (s .args .size) (e .result) (e .ensures) (c .before .before .before .before .before .before .before .before .before .before .before .before .before .before .before .before .name-size .ensures) in
+    room-told (changedReleased (s .args .size)) (changed (s .args .size) (e .result) (f .size)) (c .before .before .before .before .before .before .before .before .before .before .before .released .ensures ∙ ap released (c .before .before .before .before .before .before .before .before .before .before .before .before .changed-to .ensures)) b (named-books (s .args .address) (s .args .size) b .rows) h (c .before .before .before .before .before .before .before .before .before .before .before .before .before .before .before .before .before .before .before .before .row-count .ensures) (c .before .before .before .before .before .before .before .before .before .before .before .before .before .before .before .before .before .before .before .before .before .before .before .before .pre .1) (e .ensures) (c .before .before .before .before .before .before .before .before .before .before .touch-entry .ensures) (c .before .before .before .before .before .less-one .result) (c .before .before .before .before .before .less-one .ensures) (c .before .before .before .before .room-unless-held .ensures)
 
 pub release-changed-spec : {M : Type 1} → statement M
 release-changed-spec =
     tie.close
     (tie.spec
     row-count-requires
-    first-tests-requires
-    enum-known-verdict
+    entry-of-requires
+    name-size-requires
+    changed-to-requires
+    released-requires
+    touch-entry-requires
+    less-one-requires
+    room-unless-held-requires
     same-length
-    returns
-    enum-told
-    find-requires
-    enum-told-2
-    enum-known-found
-    release-changed-row-requires
     same-length-2
-    returns-2
-    same-length-3
-    same-length-4
-    returns-3)
+    returns)

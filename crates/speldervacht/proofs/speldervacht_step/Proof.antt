@@ -20,8 +20,8 @@ answer-of-requires c κs = search needs
 enum-told : tie.Need-enum-told
 enum-told c = search needs
 
-refuse-unknown-requires : tie.Need-refuse-unknown-requires
-refuse-unknown-requires c κs = search needs
+unknown-refusal-requires : tie.Need-unknown-refusal-requires
+unknown-refusal-requires c κs = search needs
 
 answer-of-requires-2 : tie.Need-answer-of-requires-2
 answer-of-requires-2 c κs = search needs
@@ -41,7 +41,7 @@ same-length-3 c = search needs
 
 returns-2 : tie.Need-returns-2
 unfolding stepNumbers
-returns-2 c = rw (c .answer-of2 .ensures, ← c .before .before .before .before .before .request-of .ensures, c .before .before .before .enum-told .given .1, c .before .refuse-unknown .ensures)
+returns-2 c = rw (c .answer-of2 .ensures, ← c .before .before .before .before .before .request-of .ensures, c .before .before .before .enum-told .given .1, c .before .unknown-refusal .ensures)
 
 pub speldervacht-step-spec : {M : Type 1} → statement M
 speldervacht-step-spec =
@@ -52,7 +52,7 @@ speldervacht-step-spec =
     step-requires
     answer-of-requires
     enum-told
-    refuse-unknown-requires
+    unknown-refusal-requires
     answer-of-requires-2
     same-length
     same-length-2

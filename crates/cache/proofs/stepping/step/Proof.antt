@@ -1,8 +1,11 @@
--- A table that passes is good; then each request's own function tells its outcome.
-use mathlib.Core.Path.{refl}
+-- Judging, the tests and the work are each told by their own function.
+use mathlib.Core.List.{[], _∷_}
+use mathlib.Core.Path.{sym, ap, _∙_}
+use types.Run.{miss}
+use Rattle.judge.proofs.Verdicts.{good}
+use Rattle.cache.proofs.StepAnswers.{passes-told, fails-told, step-damaged, step-left, step-not, not-refused, step-did}
+use Rattle.cache.specs.Tables.{stepWords}
 use borrow.Author.Needs.{needs}
-use Rattle.judge.proofs.Verdicts.{sound, good}
-use Rattle.cache.proofs.StepAnswers.{passes-told, fails-told, step-damaged, step-listless, step-orderless, step-neither}
 use Rattle.cache.proofs.stepping.step.Statement.{statement}
 use Rattle.cache.proofs.stepping.step.Tie as tie
 
@@ -13,93 +16,59 @@ same-length : tie.Need-same-length
 same-length c = search needs
 
 returns : tie.Need-returns
-returns c = step-damaged (c .before .before .before .before .before .before .args .table .now) (c .before .before .before .before .before .before .args .orders .now) (c .before .before .before .before .before .before .args .list .now) (c .before .before .before .before .before .before .args .request) (fails-told (c .before .judge .ensures) (c .if1 .taken))
-
-enum-known-request : tie.Need-enum-known-request
-enum-known-request c = search needs
-
-insert-requires : tie.Need-insert-requires
-insert-requires c κs = good (c .before .before .before .before .before .before .before .before .before .before .before .args .table .now) (passes-told (c .before .before .before .before .before .before .judge .ensures) (c .before .before .before .before .before .if1 .left))
-
-enum-known-request-2 : tie.Need-enum-known-request-2
-enum-known-request-2 c = search needs
-
-protect-requires : tie.Need-protect-requires
-protect-requires c κs =
-    let ws = c .before .before .before .before .before .before .before .before .before .before .before .args .table .now in
-    let v = passes-told (c .before .before .before .before .before .before .judge .ensures) (c .before .before .before .before .before .if1 .left) in
-    (good ws v, sound ws v .0)
-
-enum-known-request-3 : tie.Need-enum-known-request-3
-enum-known-request-3 c = search needs
-
-release-requires : tie.Need-release-requires
-release-requires c κs = good (c .before .before .before .before .before .before .before .before .before .before .before .args .table .now) (passes-told (c .before .before .before .before .before .before .judge .ensures) (c .before .before .before .before .before .if1 .left))
-
-enum-known-request-4 : tie.Need-enum-known-request-4
-enum-known-request-4 c = search needs
-
-release-changed-requires : tie.Need-release-changed-requires
-release-changed-requires c κs = good (c .before .before .before .before .before .before .before .before .before .before .before .args .table .now) (passes-told (c .before .before .before .before .before .before .judge .ensures) (c .before .before .before .before .before .if1 .left))
-
-enum-known-request-5 : tie.Need-enum-known-request-5
-enum-known-request-5 c = search needs
-
-pin-requires : tie.Need-pin-requires
-pin-requires c κs = good (c .before .before .before .before .before .before .before .before .before .before .args .table .now) (passes-told (c .before .before .before .before .before .judge .ensures) (c .before .before .before .before .if1 .left))
-
-enum-known-request-6 : tie.Need-enum-known-request-6
-enum-known-request-6 c = search needs
-
-unpin-requires : tie.Need-unpin-requires
-unpin-requires c κs = good (c .before .before .before .before .before .before .before .before .before .before .args .table .now) (passes-told (c .before .before .before .before .before .judge .ensures) (c .before .before .before .before .if1 .left))
-
-enum-known-request-7 : tie.Need-enum-known-request-7
-enum-known-request-7 c = search needs
-
-resize-entry-requires : tie.Need-resize-entry-requires
-resize-entry-requires c κs = good (c .before .before .before .before .before .before .before .before .before .before .args .table .now) (passes-told (c .before .before .before .before .before .judge .ensures) (c .before .before .before .before .if1 .left))
-
-enum-known-request-8 : tie.Need-enum-known-request-8
-enum-known-request-8 c = search needs
-
-discard-requires : tie.Need-discard-requires
-discard-requires c κs = good (c .before .before .before .before .before .before .before .before .before .before .args .table .now) (passes-told (c .before .before .before .before .before .judge .ensures) (c .before .before .before .before .if1 .left))
+returns c =
+    let s = c .before .before .before .before .before .before in
+    step-damaged (s .args .table .now) (s .args .orders .now) (s .args .list .now) (s .args .request) (fails-told (c .before .judge .ensures) (c .if1 .taken))
 
 enum-told : tie.Need-enum-told
 enum-told c = search needs
 
-flush-requires : tie.Need-flush-requires
-flush-requires c κs = good (c .before .before .before .before .before .before .before .before .before .before .args .table .now) (passes-told (c .before .before .before .before .before .judge .ensures) (c .before .before .before .before .if1 .left))
-
-enum-told-2 : tie.Need-enum-told-2
-enum-told-2 c = search needs
-
-sync-requires : tie.Need-sync-requires
-sync-requires c κs = good (c .before .before .before .before .before .before .before .before .before .before .args .table .now) (passes-told (c .before .before .before .before .before .judge .ensures) (c .before .before .before .before .if1 .left))
-
-enum-told-3 : tie.Need-enum-told-3
-enum-told-3 c = search needs
-
 take-requires : tie.Need-take-requires
-take-requires c κs = good (c .before .before .before .before .before .before .before .before .before .args .table .now) (passes-told (c .before .before .before .before .judge .ensures) (c .before .before .before .if1 .left))
-
-enum-known-request-9 : tie.Need-enum-known-request-9
-enum-known-request-9 c = search needs
-
-configure-requires : tie.Need-configure-requires
-configure-requires c κs = good (c .before .before .before .before .before .before .before .before .before .before .before .args .table .now) (passes-told (c .before .before .before .before .before .before .judge .ensures) (c .before .before .before .before .before .if1 .left))
+take-requires c κs =
+    let s = c .before .before .before .before .before .before .before .before .before in
+    good (s .args .table .now) (passes-told (c .before .before .before .before .judge .ensures) (c .before .before .before .if1 .left))
 
 same-length-2 : tie.Need-same-length-2
 same-length-2 c = search needs
 
+returns-2 : tie.Need-returns-2
+returns-2 c =
+    let s = c .before .before .before .before .before .before .before .before .before .before .before .before in
+    let ws = s .args .table .now in
+    let os = s .args .orders .now in
+    let list = s .args .list .now in
+    step-left ws os list _ (passes-told (c .before .before .before .before .before .before .before .judge .ensures) (c .before .before .before .before .before .before .if1 .left)) (c .before .before .take .ensures os) ∙ ap (stepWords ws os list) (sym (c .before .before .before .before .enum-told .given .1))
+
+row-count-requires : tie.Need-row-count-requires
+row-count-requires c κs = good (c .before .before .before .before .before .before .before .before .args .table .now) (passes-told (c .before .before .before .judge .ensures) (c .before .before .if1 .left))
+
+find-named-requires : tie.Need-find-named-requires
+find-named-requires c κs = record { good = good (c .before .before .before .before .before .before .before .before .before .before .args .table .now) (passes-told (c .before .before .before .before .before .judge .ensures) (c .before .before .before .before .if1 .left)); size = c .before .row-count .ensures }
+
+refusal-of-requires : tie.Need-refusal-of-requires
+refusal-of-requires c κs = (record { good = good (c .before .before .before .before .before .before .before .before .before .before .before .before .args .table .now) (passes-told (c .before .before .before .before .before .before .before .judge .ensures) (c .before .before .before .before .before .before .if1 .left)); size = c .before .before .before .row-count .ensures }, c .before .find-named .ensures)
+
+enum-known-verdict : tie.Need-enum-known-verdict
+enum-known-verdict c = search needs
+
 same-length-3 : tie.Need-same-length-3
 same-length-3 c = search needs
 
-returns-2 : tie.Need-returns-2
-returns-2 c =
+returns-3 : tie.Need-returns-3
+returns-3 c =
     let s = c .before .before .before .before .before .before .before .before .before .before .before .before .before .before .before .before in
-    step-listless (s .args .table .now) (s .args .orders .now) (s .args .list .now) _ (c .before .before .before .before .before .before .before .before .request .given .1) (passes-told (c .before .before .before .before .before .before .before .before .before .before .before .judge .ensures) (c .before .before .before .before .before .before .before .before .before .before .if1 .left)) refl (c .before .before .before .before .insert .ensures)
+    step-not (s .args .table .now) (s .args .orders .now) (s .args .list .now) (s .args .request) (passes-told (c .before .before .before .before .before .before .before .before .before .before .before .judge .ensures) (c .before .before .before .before .before .before .before .before .before .before .if1 .left)) (c .before .before .before .refusal-of .ensures) _ (c .before .verdict .given .1)
+
+enum-told-2 : tie.Need-enum-told-2
+enum-told-2 c = search needs
+
+carry-out-requires : tie.Need-carry-out-requires
+carry-out-requires c κs =
+    let s = c .before .before .before .before .before .before .before .before .before .before .before .before .before .before .before .before .before in (
+      not-refused (s .args .table .now) (s .args .orders .now) (s .args .list .now) (s .args .request) (passes-told (c .before .before .before .before .before .before .before .before .before .before .before .before .judge .ensures) (c .before .before .before .before .before .before .before .before .before .before .before .if1 .left)) (c .before .before .before .before .refusal-of .ensures) (c .before .before .enum-told2 .given .1),
+      (λ e. miss (0 ∷ 1 ∷ 2 ∷ 3 ∷ 4 ∷ 5 ∷ 6 ∷ 7 ∷ 8 ∷ 9 ∷ 11 ∷ []) 10 tt (rw e at (c .before .before .before .before .before .before .before .before .before .before .match .keys2))),
+      c .before .before .before .before .before .before .find-named .ensures,
+    )
 
 same-length-4 : tie.Need-same-length-4
 same-length-4 c = search needs
@@ -107,105 +76,10 @@ same-length-4 c = search needs
 same-length-5 : tie.Need-same-length-5
 same-length-5 c = search needs
 
-returns-3 : tie.Need-returns-3
-returns-3 c =
-    let s = c .before .before .before .before .before .before .before .before .before .before .before .before .before .before .before .before in
-    step-listless (s .args .table .now) (s .args .orders .now) (s .args .list .now) _ (c .before .before .before .before .before .before .before .before .request2 .given .1) (passes-told (c .before .before .before .before .before .before .before .before .before .before .before .judge .ensures) (c .before .before .before .before .before .before .before .before .before .before .if1 .left)) refl (c .before .before .before .before .protect .ensures)
-
-same-length-6 : tie.Need-same-length-6
-same-length-6 c = search needs
-
-same-length-7 : tie.Need-same-length-7
-same-length-7 c = search needs
-
 returns-4 : tie.Need-returns-4
 returns-4 c =
-    let s = c .before .before .before .before .before .before .before .before .before .before .before .before .before .before .before .before in
-    step-listless (s .args .table .now) (s .args .orders .now) (s .args .list .now) _ (c .before .before .before .before .before .before .before .before .request3 .given .1) (passes-told (c .before .before .before .before .before .before .before .before .before .before .before .judge .ensures) (c .before .before .before .before .before .before .before .before .before .before .if1 .left)) refl (c .before .before .before .before .release .ensures)
-
-same-length-8 : tie.Need-same-length-8
-same-length-8 c = search needs
-
-same-length-9 : tie.Need-same-length-9
-same-length-9 c = search needs
-
-returns-5 : tie.Need-returns-5
-returns-5 c =
-    let s = c .before .before .before .before .before .before .before .before .before .before .before .before .before .before .before .before in
-    step-listless (s .args .table .now) (s .args .orders .now) (s .args .list .now) _ (c .before .before .before .before .before .before .before .before .request4 .given .1) (passes-told (c .before .before .before .before .before .before .before .before .before .before .before .judge .ensures) (c .before .before .before .before .before .before .before .before .before .before .if1 .left)) refl (c .before .before .before .before .release-changed .ensures)
-
-same-length-10 : tie.Need-same-length-10
-same-length-10 c = search needs
-
-returns-6 : tie.Need-returns-6
-returns-6 c =
-    let s = c .before .before .before .before .before .before .before .before .before .before .before .before .before in
-    step-neither (s .args .table .now) (s .args .orders .now) (s .args .list .now) _ (c .before .before .before .before .before .request5 .given .1) (passes-told (c .before .before .before .before .before .before .before .before .judge .ensures) (c .before .before .before .before .before .before .before .if1 .left)) refl refl (c .before .before .pin .ensures)
-
-same-length-11 : tie.Need-same-length-11
-same-length-11 c = search needs
-
-returns-7 : tie.Need-returns-7
-returns-7 c =
-    let s = c .before .before .before .before .before .before .before .before .before .before .before .before .before in
-    step-neither (s .args .table .now) (s .args .orders .now) (s .args .list .now) _ (c .before .before .before .before .before .request6 .given .1) (passes-told (c .before .before .before .before .before .before .before .before .judge .ensures) (c .before .before .before .before .before .before .before .if1 .left)) refl refl (c .before .before .unpin .ensures)
-
-same-length-12 : tie.Need-same-length-12
-same-length-12 c = search needs
-
-returns-8 : tie.Need-returns-8
-returns-8 c =
-    let s = c .before .before .before .before .before .before .before .before .before .before .before .before .before in
-    step-neither (s .args .table .now) (s .args .orders .now) (s .args .list .now) _ (c .before .before .before .before .before .request7 .given .1) (passes-told (c .before .before .before .before .before .before .before .before .judge .ensures) (c .before .before .before .before .before .before .before .if1 .left)) refl refl (c .before .before .resize-entry .ensures)
-
-same-length-13 : tie.Need-same-length-13
-same-length-13 c = search needs
-
-returns-9 : tie.Need-returns-9
-returns-9 c =
-    let s = c .before .before .before .before .before .before .before .before .before .before .before .before .before in
-    step-neither (s .args .table .now) (s .args .orders .now) (s .args .list .now) _ (c .before .before .before .before .before .request8 .given .1) (passes-told (c .before .before .before .before .before .before .before .before .judge .ensures) (c .before .before .before .before .before .before .before .if1 .left)) refl refl (c .before .before .discard .ensures)
-
-same-length-14 : tie.Need-same-length-14
-same-length-14 c = search needs
-
-same-length-15 : tie.Need-same-length-15
-same-length-15 c = search needs
-
-returns-10 : tie.Need-returns-10
-returns-10 c =
-    let s = c .before .before .before .before .before .before .before .before .before .before .before .before .before .before .before in
-    step-listless (s .args .table .now) (s .args .orders .now) (s .args .list .now) _ (c .before .before .before .before .before .before .before .enum-told .given .1) (passes-told (c .before .before .before .before .before .before .before .before .before .before .judge .ensures) (c .before .before .before .before .before .before .before .before .before .if1 .left)) refl (c .before .before .before .before .flush .ensures)
-
-same-length-16 : tie.Need-same-length-16
-same-length-16 c = search needs
-
-same-length-17 : tie.Need-same-length-17
-same-length-17 c = search needs
-
-returns-11 : tie.Need-returns-11
-returns-11 c =
-    let s = c .before .before .before .before .before .before .before .before .before .before .before .before .before .before .before in
-    step-listless (s .args .table .now) (s .args .orders .now) (s .args .list .now) _ (c .before .before .before .before .before .before .before .enum-told2 .given .1) (passes-told (c .before .before .before .before .before .before .before .before .before .before .judge .ensures) (c .before .before .before .before .before .before .before .before .before .if1 .left)) refl (c .before .before .before .before .sync .ensures)
-
-same-length-18 : tie.Need-same-length-18
-same-length-18 c = search needs
-
-returns-12 : tie.Need-returns-12
-returns-12 c =
-    let s = c .before .before .before .before .before .before .before .before .before .before .before .before in
-    step-orderless (s .args .table .now) (s .args .orders .now) (s .args .list .now) _ (c .before .before .before .before .enum-told3 .given .1) (passes-told (c .before .before .before .before .before .before .before .judge .ensures) (c .before .before .before .before .before .before .if1 .left)) refl (c .before .before .take .ensures)
-
-same-length-19 : tie.Need-same-length-19
-same-length-19 c = search needs
-
-same-length-20 : tie.Need-same-length-20
-same-length-20 c = search needs
-
-returns-13 : tie.Need-returns-13
-returns-13 c =
-    let s = c .before .before .before .before .before .before .before .before .before .before .before .before .before .before .before .before in
-    step-listless (s .args .table .now) (s .args .orders .now) (s .args .list .now) _ (c .before .before .before .before .before .before .before .before .request9 .given .1) (passes-told (c .before .before .before .before .before .before .before .before .before .before .before .judge .ensures) (c .before .before .before .before .before .before .before .before .before .before .if1 .left)) refl (c .before .before .before .before .configure .ensures)
+    let s = c .before .before .before .before .before .before .before .before .before .before .before .before .before .before .before .before .before .before .before .before .before .before in
+    step-did (s .args .table .now) (s .args .orders .now) (s .args .list .now) (s .args .request) (passes-told (c .before .before .before .before .before .before .before .before .before .before .before .before .before .before .before .before .before .judge .ensures) (c .before .before .before .before .before .before .before .before .before .before .before .before .before .before .before .before .if1 .left)) (c .before .before .before .before .before .before .before .before .before .refusal-of .ensures) (c .before .before .before .before .before .before .before .enum-told2 .given .1) (c .before .before .before .before .carry-out .ensures)
 
 pub step-spec : {M : Type 1} → statement M
 step-spec =
@@ -214,58 +88,18 @@ step-spec =
     judge-requires
     same-length
     returns
-    enum-known-request
-    insert-requires
-    enum-known-request-2
-    protect-requires
-    enum-known-request-3
-    release-requires
-    enum-known-request-4
-    release-changed-requires
-    enum-known-request-5
-    pin-requires
-    enum-known-request-6
-    unpin-requires
-    enum-known-request-7
-    resize-entry-requires
-    enum-known-request-8
-    discard-requires
     enum-told
-    flush-requires
-    enum-told-2
-    sync-requires
-    enum-told-3
     take-requires
-    enum-known-request-9
-    configure-requires
     same-length-2
-    same-length-3
     returns-2
+    row-count-requires
+    find-named-requires
+    refusal-of-requires
+    enum-known-verdict
+    same-length-3
+    returns-3
+    enum-told-2
+    carry-out-requires
     same-length-4
     same-length-5
-    returns-3
-    same-length-6
-    same-length-7
-    returns-4
-    same-length-8
-    same-length-9
-    returns-5
-    same-length-10
-    returns-6
-    same-length-11
-    returns-7
-    same-length-12
-    returns-8
-    same-length-13
-    returns-9
-    same-length-14
-    same-length-15
-    returns-10
-    same-length-16
-    same-length-17
-    returns-11
-    same-length-18
-    returns-12
-    same-length-19
-    same-length-20
-    returns-13)
+    returns-4)

@@ -1,2 +1,0 @@
-pub mod Flushed
-pub mod Listed

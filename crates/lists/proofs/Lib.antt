@@ -1,0 +1,2 @@
+pub mod Cleaning
+pub mod Flushing

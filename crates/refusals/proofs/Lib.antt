@@ -1,0 +1,5 @@
+pub mod Telling
+pub mod Marked
+pub mod Evictable
+pub mod Unrefused
+pub mod Here

@@ -1,0 +1,5 @@
+pub mod Named
+pub mod Seen
+pub mod Tells
+pub mod Listed
+pub mod Unrefused

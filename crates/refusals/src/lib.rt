@@ -1,0 +1,53 @@
+// Why a request is refused: its tests, as the rules order them.
+ghost use mathlib.Core.Path.{_≡_};
+ghost use Rattle.rules.specs.Hosts.{asking};
+ghost use Rattle.rules.specs.Refusals.{refusalOf};
+ghost use Rattle.rules.specs.Answers.{verdictOf};
+ghost use Rattle.layout.specs.Picture.{cacheIn};
+ghost use Rattle.table.specs.Asked.{GoodRows};
+ghost use Rattle.refusals.specs.Named.{foundFor};
+use rules::answer::Verdict;
+use rules::request::Request;
+use table::lookup::Found;
+
+mod full;
+pub mod list;
+pub mod named;
+mod seen;
+pub mod tests;
+
+// The first of the request's tests that passes. The address that it names was looked for before.
+pub fn refusal_of(
+    table: &[u64],
+    rows: usize,
+    found: Found,
+    lent: usize,
+    list: &[u64],
+    request: Request,
+) -> Verdict
+    requires { ⌜ GoodRows (now table) rows × (found ≡ foundFor (cacheIn (now table) .rows) request) ⌝ }
+    ensures { λ r. ⌜ r ≡ verdictOf (refusalOf (cacheIn (now (table .entry))) (asking request (now (list .entry)) lent)) ⌝ }
+{
+    match request {
+        Request::Insert { address, size } => {
+            tests::insert(table, rows, found, lent, address, size)
+        }
+        Request::Protect {
+            access,
+            address,
+            size,
+        } => tests::protect(table, rows, found, lent, access, address, size),
+        Request::Release { address } => tests::release(table, rows, found, lent, address),
+        Request::ReleaseChanged { address, size } => {
+            tests::release_changed(table, rows, found, lent, address, size)
+        }
+        Request::Pin { address } => tests::pin(table, rows, found, address),
+        Request::Unpin { address } => tests::unpin(table, rows, found, address),
+        Request::Resize { address, size } => tests::resize(table, rows, found, address, size),
+        Request::Discard { address } => tests::discard(table, rows, found, address),
+        Request::Flush => tests::flush(table, rows, lent),
+        Request::Sync => tests::sync(table, rows, lent),
+        Request::Take => tests::take(table, rows, list),
+        Request::Configure(s) => tests::configure(table, rows, lent, s),
+    }
+}

@@ -1,0 +1,33 @@
+-- What a host is told before a request is what it is answered then.
+use Prim.Native.Nat.{ℕ}
+use mathlib.Core.List.{List}
+use mathlib.Core.Path.{_≡_, refl, ap, _∙_}
+use lib.ListN.{length}
+use Rattle.rules.specs.Answers.{verdictIn}
+use Rattle.rules.specs.declared.answer.Answer.{Answer}
+use Rattle.rules.specs.declared.answer.Answer.the-variants.{Accepted, Refused}
+use Rattle.cache.proofs.AskedRuns.{ask-step}
+use Rattle.speldervacht.specs.Meanings.{askedOfRaw}
+use Rattle.speldervacht.specs.Numbers.{answerNumbers, stepAsked, leftNumbers, stepNumbers, verdictNumbers, askAsked, askNumbers}
+use Rattle.speldervacht.specs.declared.raw.RawAnswer.{RawAnswer}
+use Rattle.speldervacht.specs.declared.raw.RawRequest.{RawRequest}
+use Rattle.speldervacht.specs.declared.raw.RawVerdict.{RawVerdict}
+use Rattle.speldervacht.specs.declared.request.Asked.{Asked}
+use Rattle.speldervacht.specs.declared.request.Asked.the-variants.{Known, Unknown}
+
+-- the number and the field of an answer
+abbrev pub toldBy : RawAnswer → RawVerdict
+toldBy a = record { number = a .number; field = a .field }
+
+same-numbers : (a : Answer) → verdictNumbers (verdictIn a) ≡ toldBy (answerNumbers a)
+same-numbers (Accepted n) = refl
+same-numbers (Refused r) = refl
+
+module _ (table orders list : List ℕ) where
+  asked-step : (q : Asked) → verdictNumbers (askAsked table (length orders) list q) ≡ toldBy (leftNumbers (stepAsked table orders list q) .answer)
+  asked-step Unknown = refl
+  asked-step (Known r) = ap verdictNumbers (ask-step table orders list r) ∙ same-numbers (stepAsked table orders list (Known r) .answer)
+
+  pub told-before : (w : RawRequest) → askNumbers table (length orders) list w ≡ toldBy (stepNumbers table orders list w .answer)
+  unfolding askNumbers stepNumbers
+  told-before w = asked-step (askedOfRaw w)
