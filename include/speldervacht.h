@@ -19,13 +19,12 @@
  * A lead and a standby have the same dirty records at the same sizes, and the same byte count, if
  * both are opened with the same threshold, both get every insert, changed release, resize and
  * discard before the next one, the standby takes each list before the next list or change, and no
- * such change is refused by only one of them. A refusal changes nothing, so the host does each change
- * at the standby first, and at the lead once the standby has accepted it. If the standby answers
- * NO_ROW, the lead flushes or syncs, the standby takes the list, and the change is tried again; at
- * NOT_IN_CACHE, HELD, NOT_HELD and PIN_FORBIDS the entry is protected, released or unpinned where the
- * change was refused, and it is tried again there. If the second of the two still refuses what the
- * first has accepted, the standby is built anew: the lead flushes, and both are opened fresh.
- * docs/RULES.md, "A change that one of them refuses", has an example and each number.
+ * such change is refused by only one of them. So the host asks both about a change (speldervacht_ask),
+ * and does it at both if both would accept it; a table gets no other request between its yes and the
+ * doing. If one would answer NO_ROW, the lead flushes or syncs, the standby takes the list, and the
+ * host asks again; at NOT_IN_CACHE, HELD, NOT_HELD and PIN_FORBIDS the entry is protected, released or
+ * unpinned there first. docs/RULES.md, "A change that one of them refuses", has an example and each
+ * number.
  *
  * The host lends memory for each call and the library keeps none of its own:
  *
@@ -61,7 +60,7 @@
  * The pointers: each is aligned for uint64_t and points to at least as many words as its length
  * says. NULL goes with the length 0. The table, the orders and the list of one call must not
  * overlap. Too short a table is refused with 1, too few order words with 2. Calls on different
- * tables may run at the same time; calls on one table may not, unless all of them are reports.
+ * tables may run at the same time; calls on one table may not, unless all of them ask or report.
  *
  * A first cache:
  *
@@ -244,6 +243,12 @@ typedef struct speldervacht_answer {
     uint64_t orders; /* how many orders were given */
 } speldervacht_answer;
 
+/* What a request would be answered. */
+typedef struct speldervacht_verdict {
+    uint64_t number; /* enum speldervacht_number */
+    uint64_t field;  /* 1 to 12 with SPELDERVACHT_BAD_SETTING, else 0 */
+} speldervacht_verdict;
+
 /* The figures of a cache, in bytes but for entries and due. */
 typedef struct speldervacht_figures {
     uint64_t number;                           /* 0, or SPELDERVACHT_BAD_TABLE and all else is 0 */
@@ -261,6 +266,7 @@ SPELDERVACHT_STATIC_ASSERT(sizeof(double) == 8, "double is a 64-bit float");
 SPELDERVACHT_STATIC_ASSERT(sizeof(struct speldervacht_settings) == 176, "22 words");
 SPELDERVACHT_STATIC_ASSERT(sizeof(struct speldervacht_request) == 200, "25 words");
 SPELDERVACHT_STATIC_ASSERT(sizeof(struct speldervacht_answer) == 24, "3 words");
+SPELDERVACHT_STATIC_ASSERT(sizeof(struct speldervacht_verdict) == 16, "2 words");
 SPELDERVACHT_STATIC_ASSERT(sizeof(struct speldervacht_figures) == 152, "19 words");
 
 /* ---- functions */
@@ -276,6 +282,12 @@ speldervacht_answer speldervacht_open(uint64_t *table, size_t table_words, uint6
  * A lead's list is the addresses of the write orders of an accepted flush or sync, and is sent even
  * if it is empty. The standby takes each list once, as sent, before the next list or change. */
 speldervacht_answer speldervacht_step(uint64_t *table, size_t table_words, uint64_t *orders, size_t order_words,
+                                      const uint64_t *list, size_t list_words, struct speldervacht_request request);
+
+/* Tells what speldervacht_step would answer to the request, with so many order words lent for it, and
+ * changes nothing. What it tells holds as long as the table gets no other request. It costs what
+ * judging the table and testing the request cost, never more than the request itself. */
+speldervacht_verdict speldervacht_ask(const uint64_t *table, size_t table_words, size_t order_words,
                                       const uint64_t *list, size_t list_words, struct speldervacht_request request);
 
 /* Tells the figures of the cache in the table. */

@@ -3,8 +3,8 @@
 //!
 //! The host lends three slices of words: a *table* that holds the cache from one request to the
 //! next, words for the *orders* that a request gives, and, for a standby, a *list* of addresses.
-//! [`open`] makes a fresh cache in a table, [`step`] does one request on it, [`report`] tells its
-//! figures. A request is accepted, and the host carries out its orders in turn, or it is refused,
+//! [`open`] makes a fresh cache in a table, [`step`] does one request on it, [`ask`] tells what a
+//! request would be answered, [`report`] tells the figures. A request is accepted, and the host carries out its orders in turn, or it is refused,
 //! and then nothing has changed. A table has no pointers: the host may copy, move or store it
 //! between requests, and must not write to it. docs/RULES.md has each rule.
 //!
@@ -45,15 +45,45 @@
 //! They have the same dirty records at the same sizes, and the same byte count, if both are opened
 //! with the same threshold, both get every insert, changed release, resize and discard before the
 //! next one, the standby takes each list before the next list or change, and no such change is
-//! refused by only one of them. A refusal changes nothing, so the host does each change at the standby
-//! first, and at the lead once the standby has accepted it. What helps then:
+//! refused by only one of them. So the host [`ask`]s both about a change, and does it at both if both
+//! would accept it; a table gets no other request between its yes and the doing. What helps where one
+//! would refuse:
 //!
-//! - [`Refusal::NoRow`]: the lead flushes or syncs, the standby takes the list, and the change is tried
-//!   again.
+//! - [`Refusal::NoRow`]: the lead flushes or syncs, and the standby takes the list. What became clean
+//!   may be evicted.
 //! - [`Refusal::NotInCache`], [`Refusal::Held`], [`Refusal::NotHeld`], [`Refusal::Pinned`]: the entry is
-//!   protected, released or unpinned where the change was refused, and it is tried again there.
-//! - If the second of the two still refuses what the first has accepted, the standby is built anew: the
-//!   lead flushes, and both are opened fresh.
+//!   protected, released or unpinned there.
+//!
+//! ```
+//! use speldervacht::{ask, open, order_words, step, table_words, Mode, Refusal, Request, Settings};
+//!
+//! let (rows, words) = (2, order_words(2));
+//! let mut orders = vec![0; words];
+//! let mut lead = vec![0; table_words(rows)];
+//! let mut standby = lead.clone();
+//! open(&mut lead, rows, Mode::Lead, 1_000, &Settings::fixed(4_096))?;
+//! open(&mut standby, rows, Mode::Standby, 1_000, &Settings::fixed(4_096))?;
+//! for address in [100, 200] {
+//!     step(&mut lead, &mut orders, &Request::Insert { address, size: 50 })?;
+//!     step(&mut standby, &mut orders, &Request::Insert { address, size: 50 })?;
+//! }
+//!
+//! // Both rows are dirty at both: neither has room for a third record, and neither is changed.
+//! let insert = Request::Insert { address: 300, size: 50 };
+//! assert_eq!(ask(&lead, words, &insert), Err(Refusal::NoRow));
+//! assert_eq!(ask(&standby, words, &insert), Err(Refusal::NoRow));
+//!
+//! // The lead writes and sends its list. The standby takes it.
+//! let written = step(&mut lead, &mut orders, &Request::Flush)?;
+//! let list: Vec<u64> = written.map(|order| order.address).collect();
+//! step(&mut standby, &mut orders, &Request::Take { list: &list })?;
+//!
+//! // Now both say yes, so both accept it.
+//! assert!(ask(&lead, words, &insert).is_ok() && ask(&standby, words, &insert).is_ok());
+//! step(&mut lead, &mut orders, &insert)?;
+//! step(&mut standby, &mut orders, &insert)?;
+//! # Ok::<(), Refusal>(())
+//! ```
 //!
 //! docs/RULES.md, "A change that one of them refuses", has an example and each number.
 
@@ -165,6 +195,14 @@ impl Request<'_> {
         }
     }
 
+    /// The list that the request takes, or none.
+    fn list(&self) -> &[u64] {
+        match self {
+            Request::Take { list } => list,
+            _ => &[],
+        }
+    }
+
     fn to_raw(self) -> raw::Request {
         let kind = match self {
             Request::Insert { .. } => 1,
@@ -234,10 +272,7 @@ pub fn open(table: &mut [u64], rows: usize, mode: Mode, threshold: u64, settings
 /// Insert, protect, release, flush, sync and configure can give orders and need [`order_words`] of
 /// the rows; words past the last order are left alone.
 pub fn step<'o>(table: &mut [u64], orders: &'o mut [u64], request: &Request) -> Result<Orders<'o>, Refusal> {
-    let list = match *request {
-        Request::Take { list } => list,
-        _ => &[],
-    };
+    let list = request.list();
     // SAFETY: the slices are ours for the call, and borrowed apart.
     let answer = unsafe {
         raw::speldervacht_step(
@@ -252,7 +287,26 @@ pub fn step<'o>(table: &mut [u64], orders: &'o mut [u64], request: &Request) -> 
     };
     match answer.number {
         0 => Ok(Orders::new(&orders[..3 * answer.orders as usize])),
-        _ => Err(Refusal::of_request(answer, table, orders.len(), request)),
+        number => {
+            let verdict = raw::Verdict { number, field: answer.field };
+            Err(Refusal::of_request(verdict, table, orders.len(), request))
+        }
+    }
+}
+
+/// Tells what [`step`] would answer to a request with so many order words, and changes nothing.
+///
+/// What it tells holds as long as the table gets no other request. It costs what judging the table
+/// and testing the request cost, never more than the request itself.
+pub fn ask(table: &[u64], order_words: usize, request: &Request) -> Result<(), Refusal> {
+    let list = request.list();
+    // SAFETY: the slices are borrowed for the call.
+    let verdict = unsafe {
+        raw::speldervacht_ask(table.as_ptr(), table.len(), order_words, list.as_ptr(), list.len(), request.to_raw())
+    };
+    match verdict.number {
+        0 => Ok(()),
+        _ => Err(Refusal::of_request(verdict, table, order_words, request)),
     }
 }
 

@@ -49,6 +49,14 @@ pub struct Answer {
     pub orders: u64,
 }
 
+/// What a request would be answered: 0 or a refusal's number, and the bad field with 12.
+#[repr(C)]
+#[derive(Clone, Copy, Debug, Default, PartialEq, Eq)]
+pub struct Verdict {
+    pub number: u64,
+    pub field: u64,
+}
+
 /// The figures of a cache; with number 1 all else is 0.
 #[repr(C)]
 #[derive(Clone, Copy, Debug, Default, PartialEq, Eq)]
@@ -67,6 +75,7 @@ pub struct Figures {
 const _: () = assert!(size_of::<Settings>() == 176);
 const _: () = assert!(size_of::<Request>() == 200);
 const _: () = assert!(size_of::<Answer>() == 24);
+const _: () = assert!(size_of::<Verdict>() == 16);
 const _: () = assert!(size_of::<Figures>() == 152);
 
 extern "C" {
@@ -97,6 +106,20 @@ extern "C" {
         list_words: usize,
         request: Request,
     ) -> Answer;
+
+    /// Tells what `speldervacht_step` would answer to a request, with so many order words lent.
+    ///
+    /// # Safety
+    /// `table` and `list` have as many words as their lengths say, which nothing writes during the
+    /// call.
+    pub fn speldervacht_ask(
+        table: *const u64,
+        table_words: usize,
+        order_words: usize,
+        list: *const u64,
+        list_words: usize,
+        request: Request,
+    ) -> Verdict;
 
     /// Tells the figures of the cache in the table.
     ///

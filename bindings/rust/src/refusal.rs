@@ -96,9 +96,9 @@ impl Refusal {
     }
 
     /// The refusal of a request, with what the untouched table tells of it.
-    pub(crate) fn of_request(answer: raw::Answer, table: &[u64], lent: usize, request: &Request) -> Refusal {
+    pub(crate) fn of_request(verdict: raw::Verdict, table: &[u64], lent: usize, request: &Request) -> Refusal {
         let address = request.address();
-        match answer.number {
+        match verdict.number {
             1 => Refusal::BadTable,
             2 => Refusal::FewOrderWords { needed: order_words(word(table, 1) as usize), lent },
             3 => Refusal::BadAddress,
@@ -119,7 +119,7 @@ impl Refusal {
                 _ => Refusal::Pinned { address },
             },
             11 => Refusal::NoRow,
-            12 => Refusal::BadSetting { field: answer.field },
+            12 => Refusal::BadSetting { field: verdict.field },
             13 => Refusal::BadList,
             number => Refusal::Other { number },
         }
