@@ -1,8 +1,9 @@
 //! A cache twice: in the library's table, and as the model.
 
 use crate::boundary::{mode_of, request_of, settings_of, Asked, SettingsWords};
-use crate::library::{self, Answer};
-use crate::model::{self, Model, Order, Report};
+use crate::library::{self, Answer, Verdict};
+use crate::model::{self, order_words, Model, Order, Refusal, Report};
+use crate::reached::AskPlace;
 use crate::table;
 use crate::tally::{Tally, OPENING};
 
@@ -16,6 +17,13 @@ pub struct Difference {
 
 fn differ<T>(what: impl Into<String>, library: impl ToString, model: impl ToString) -> Result<T, Difference> {
     Err(Difference { what: what.into(), library: library.to_string(), model: model.to_string() })
+}
+
+fn same_list(list: &[u64], before: &[u64]) -> Result<(), Difference> {
+    if list != before {
+        return differ("the list", format!("{list:?}"), format!("{before:?}"));
+    }
+    Ok(())
 }
 
 pub struct Cache {
@@ -89,7 +97,55 @@ impl Cache {
         Ok(answer)
     }
 
-    /// One request; the orders it gave.
+    /// What a request would be answered; no word changes.
+    pub fn told(&self, lent: usize, order_lent: usize, list: &[u64], asked: &Asked) -> Result<Verdict, Difference> {
+        let pictured = self.model.as_ref().filter(|m| lent >= table::table_words(m.rows));
+        let expected = match pictured.map(|m| m.refusal(&request_of(asked), list, order_lent)) {
+            None => Verdict { number: 1, field: 0 },
+            Some(None) => Verdict { number: 0, field: 0 },
+            Some(Some(Refusal { number, field })) => Verdict { number, field },
+        };
+        let list_before = list.to_vec();
+        let told = library::ask(&self.table[..lent], order_lent, list, asked);
+        if told != expected {
+            return differ("what asking tells", told, expected);
+        }
+        self.expected_words_stand()?;
+        same_list(list, &list_before)?;
+        Ok(told)
+    }
+
+    /// A request that is asked about and not done.
+    pub fn ask(
+        &self,
+        lent: usize,
+        order_lent: usize,
+        list: &[u64],
+        asked: &Asked,
+        tally: &mut Tally,
+    ) -> Result<Verdict, Difference> {
+        let told = self.told(lent, order_lent, list, asked)?;
+        let mut mark = |place| tally.asked.mark(place);
+        mark(AskPlace::Asked);
+        mark(if told.number == 0 { AskPlace::ToldYes } else { AskPlace::ToldRefusal });
+        match &self.model {
+            None => mark(AskPlace::OfDamaged),
+            Some(m) if lent < table::table_words(m.rows) => mark(AskPlace::OfShort),
+            Some(m) => {
+                let needed = order_words(m.rows);
+                match order_lent {
+                    0 => mark(AskPlace::NoWords),
+                    lent if lent == needed - 1 => mark(AskPlace::OneTooFew),
+                    lent if lent == needed => mark(AskPlace::Enough),
+                    lent if lent > needed => mark(AskPlace::MoreThanEnough),
+                    _ => {}
+                }
+            }
+        }
+        Ok(told)
+    }
+
+    /// One request, asked about before; the orders it gave.
     pub fn step(
         &mut self,
         lent: usize,
@@ -98,6 +154,7 @@ impl Cache {
         asked: &Asked,
         tally: &mut Tally,
     ) -> Result<(Answer, Vec<Order>), Difference> {
+        let told = self.told(lent, order_lent, list, asked)?;
         let request = request_of(asked);
         let pictured = self.model.as_mut().filter(|m| lent >= table::table_words(m.rows));
         let (expected, orders) = match pictured.map(|m| m.step(&request, list, order_lent)) {
@@ -117,10 +174,11 @@ impl Cache {
         if answer != expected {
             return differ("the answer", answer, expected);
         }
-        self.expected_words_stand()?;
-        if list != list_before {
-            return differ("the list", format!("{list:?}"), format!("{list_before:?}"));
+        if told != answer.verdict() {
+            return differ("the answer beside what asking told before", answer, told);
         }
+        self.expected_words_stand()?;
+        same_list(list, &list_before)?;
         tally.answer(if asked.kind <= 13 { asked.kind as usize } else { 0 }, &answer);
         self.hand_in(tally);
         self.report(self.table.len(), tally)?;

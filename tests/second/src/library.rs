@@ -11,21 +11,40 @@ pub struct Answer {
     pub orders: u64,
 }
 
+/// What a request is answered, but for its orders.
+#[derive(Clone, Copy, Debug, PartialEq, Eq)]
+pub struct Verdict {
+    pub number: u64,
+    pub field: u64,
+}
+
+impl Answer {
+    pub fn verdict(&self) -> Verdict {
+        Verdict { number: self.number, field: self.field }
+    }
+}
+
+impl std::fmt::Display for Verdict {
+    fn fmt(&self, f: &mut std::fmt::Formatter) -> std::fmt::Result {
+        match self.number {
+            0 => write!(f, "accepted"),
+            number => write!(f, "refused {number}"),
+        }?;
+        match self.field {
+            0 => Ok(()),
+            field => write!(f, ", field {field}"),
+        }
+    }
+}
+
 impl std::fmt::Display for Answer {
     fn fmt(&self, f: &mut std::fmt::Formatter) -> std::fmt::Result {
+        write!(f, "{}", self.verdict())?;
         match (self.number, self.orders) {
-            (0, 0) => write!(f, "accepted, no orders"),
-            (0, orders) => write!(f, "accepted, {orders} orders"),
-            (12, _) => write!(f, "refused 12, field {}", self.field),
-            (number, _) => write!(f, "refused {number}"),
-        }?;
-        if self.number != 0 && self.orders != 0 {
-            write!(f, ", {} orders", self.orders)?;
+            (0, 0) => write!(f, ", no orders"),
+            (_, 0) => Ok(()),
+            (_, orders) => write!(f, ", {orders} orders"),
         }
-        if self.number != 12 && self.field != 0 {
-            write!(f, ", field {}", self.field)?;
-        }
-        Ok(())
     }
 }
 
@@ -61,6 +80,11 @@ fn settings_of(w: &SettingsWords) -> raw::Settings {
     }
 }
 
+fn request_of(asked: &Asked) -> raw::Request {
+    let Asked { kind, address, size, ref settings } = *asked;
+    raw::Request { kind, address, size, settings: settings_of(settings) }
+}
+
 /// No words are lent as NULL.
 fn start(words: &[u64]) -> *const u64 {
     if words.is_empty() {
@@ -85,12 +109,6 @@ pub fn open(table: &mut [u64], rows: u64, mode: u64, threshold: u64, settings: &
 }
 
 pub fn step(table: &mut [u64], orders: &mut [u64], list: &[u64], asked: &Asked) -> Answer {
-    let request = raw::Request {
-        kind: asked.kind,
-        address: asked.address,
-        size: asked.size,
-        settings: settings_of(&asked.settings),
-    };
     let (table_words, order_words) = (table.len(), orders.len());
     // SAFETY: the slices are ours for the call, and borrowed apart.
     answer_of(unsafe {
@@ -101,9 +119,17 @@ pub fn step(table: &mut [u64], orders: &mut [u64], list: &[u64], asked: &Asked) 
             order_words,
             start(list),
             list.len(),
-            request,
+            request_of(asked),
         )
     })
+}
+
+pub fn ask(table: &[u64], order_words: usize, list: &[u64], asked: &Asked) -> Verdict {
+    // SAFETY: the slices are borrowed for the call.
+    let v = unsafe {
+        raw::speldervacht_ask(start(table), table.len(), order_words, start(list), list.len(), request_of(asked))
+    };
+    Verdict { number: v.number, field: v.field }
 }
 
 /// The number and the figures, which are all 0 where the number is not.

@@ -68,6 +68,19 @@ places! { Place in Reached:
     CountStopped "byte count at its stop",
 }
 
+// What was asked about and not done. Besides, every request is asked about before it is done.
+places! { AskPlace in AskReached:
+    Asked "requests asked about and not done",
+    ToldYes "  that would be accepted",
+    ToldRefusal "  that would be refused",
+    NoWords "  with no order words",
+    OneTooFew "  with one order word too few",
+    Enough "  with exactly enough",
+    MoreThanEnough "  with more",
+    OfShort "  of a table that is too short",
+    OfDamaged "  of a table that is no cache",
+}
+
 // What a lead and a standby do.
 places! { PairPlace in PairReached:
     SharedAccepted "shared changes that both accepted",

@@ -23,6 +23,13 @@ pub enum Event {
         list: Vec<u64>,
         asked: Asked,
     },
+    /// A request that is asked about and not done.
+    Ask {
+        lent: usize,
+        order_lent: usize,
+        list: Vec<u64>,
+        asked: Asked,
+    },
     Report {
         lent: usize,
     },
@@ -52,6 +59,9 @@ impl Run {
             }
             Event::Step { lent, order_lent, list, asked } => {
                 cache.step(*lent, *order_lent, list, asked, tally).map(|_| ())
+            }
+            Event::Ask { lent, order_lent, list, asked } => {
+                cache.ask(*lent, *order_lent, list, asked, tally).map(|_| ())
             }
             Event::Report { lent } => cache.report(*lent, tally),
             Event::Put { words } => {
@@ -168,6 +178,8 @@ impl Player<'_> {
         }
         for _ in 0..self.r.between(1, 3) {
             let (asked, list) = requests::blind_request(&mut self.r, rows);
+            self.ask(rows, asked, list)?;
+            let (asked, list) = requests::blind_request(&mut self.r, rows);
             let order_lent = if self.r.chance(90) { self.run.order_words } else { 0 };
             let lent = self.run.table_words;
             self.happen(Event::Step { lent, order_lent, list, asked })?;
@@ -179,10 +191,26 @@ impl Player<'_> {
         Ok(())
     }
 
-    fn step(&mut self, phase: &Phase) -> Result<(), Difference> {
-        let Some(m) = &self.cache.model else { return Ok(()) };
-        let rows = m.rows;
+    /// Asks about a request, which is not done.
+    fn ask(&mut self, rows: usize, asked: Asked, list: Vec<u64>) -> Result<(), Difference> {
+        let lent = self.lent(table_words(rows));
+        let needed = order_words(rows);
+        let order_lent = self.r.pick(&[0, 1, needed - 1, needed, needed, needed + 1, usize::MAX]);
+        self.happen(Event::Ask { lent, order_lent, list, asked })
+    }
+
+    /// The rows of the cache, and a request as the phase has them.
+    fn draw(&mut self, phase: &Phase) -> Option<(usize, Asked, Vec<u64>)> {
+        let m = self.cache.model.as_ref()?;
         let (asked, list) = requests::request(&mut self.r, m, phase, self.scale);
+        Some((m.rows, asked, list))
+    }
+
+    fn step(&mut self, phase: &Phase) -> Result<(), Difference> {
+        if let (Some((rows, asked, list)), true) = (self.draw(phase), self.r.chance(10)) {
+            self.ask(rows, asked, list)?;
+        }
+        let Some((rows, asked, list)) = self.draw(phase) else { return Ok(()) };
         let lent = self.lent(table_words(rows));
         let order_lent = self.order_lent(order_words(rows));
         self.happen(Event::Step { lent, order_lent, list, asked })
@@ -275,8 +303,9 @@ impl std::fmt::Display for Run {
                         write!(f, " [{lent} table words lent]")?;
                     }
                 }
-                Event::Step { lent, order_lent, list, asked } => {
-                    write!(f, "{}", asked_text(asked, list))?;
+                Event::Step { lent, order_lent, list, asked } | Event::Ask { lent, order_lent, list, asked } => {
+                    let only_asked = if matches!(event, Event::Ask { .. }) { "asked: " } else { "" };
+                    write!(f, "{only_asked}{}", asked_text(asked, list))?;
                     if *lent != self.table_words {
                         write!(f, " [{lent} table words lent]")?;
                     }

@@ -2,7 +2,7 @@
 
 use crate::boundary::KINDS;
 use crate::library::Answer;
-use crate::reached::{PairReached, Reached};
+use crate::reached::{AskReached, PairReached, Reached};
 
 #[derive(Clone, Default)]
 pub struct Tally {
@@ -23,6 +23,7 @@ pub struct Tally {
     pub states: u64,
     pub longest_list: u64,
     pub reached: Reached,
+    pub asked: AskReached,
     pub pairs: PairReached,
 }
 
@@ -36,6 +37,11 @@ impl Tally {
         if answer.number == 12 {
             self.fields[answer.field.min(12) as usize] += 1;
         }
+    }
+
+    /// All requests but openings.
+    fn steps(&self) -> u64 {
+        self.answers[..OPENING].iter().flatten().sum()
     }
 
     pub fn print(&self) {
@@ -68,6 +74,9 @@ impl Tally {
         line(("damaged, and no cache", self.damaged_bad));
         line(("orders", self.orders));
         line(("reports", self.reports));
+        println!("\nasking");
+        line(("requests asked about and then done", self.steps()));
+        self.asked.iter().for_each(line);
         println!("\nlead and standby");
         line(("runs", self.pair_runs));
         line(("longest list", self.longest_list));
@@ -76,7 +85,7 @@ impl Tally {
 
     /// What no run reached.
     pub fn never_reached(&self) -> Vec<&'static str> {
-        let places = self.reached.iter().chain(self.pairs.iter());
+        let places = self.reached.iter().chain(self.asked.iter()).chain(self.pairs.iter());
         places.filter(|(_, times)| *times == 0).map(|(name, _)| name.trim_start()).collect()
     }
 }

@@ -32,20 +32,20 @@ fn small() -> Model {
     open(4, Mode::Alone, 262_144, small_settings())
 }
 
-fn ask(m: &mut Model, request: Request) -> Result<Vec<Order>, u64> {
+fn step(m: &mut Model, request: Request) -> Result<Vec<Order>, u64> {
     m.step(&request, &[], order_words(m.rows)).map_err(|r| r.number)
 }
 
 fn insert(m: &mut Model, address: u64, size: u64) -> Result<Vec<Order>, u64> {
-    ask(m, Request::Insert { address, size })
+    step(m, Request::Insert { address, size })
 }
 
 fn read(m: &mut Model, address: u64, size: u64) -> Result<Vec<Order>, u64> {
-    ask(m, Request::Protect { writing: false, address, size })
+    step(m, Request::Protect { writing: false, address, size })
 }
 
 fn release(m: &mut Model, address: u64) -> Result<Vec<Order>, u64> {
-    ask(m, Request::Release { address, changed: None })
+    step(m, Request::Release { address, changed: None })
 }
 
 fn p1_orders() -> Vec<Order> {
@@ -74,16 +74,16 @@ fn p1_and_p2() {
 fn p3_and_p4() {
     let mut m = open(1, Mode::Alone, 1, small_settings());
     read(&mut m, 100, 10).unwrap();
-    ask(&mut m, Request::Pin { address: 100 }).unwrap();
+    step(&mut m, Request::Pin { address: 100 }).unwrap();
     release(&mut m, 100).unwrap();
     assert_eq!(insert(&mut m, 200, 10), Err(11));
-    ask(&mut m, Request::Unpin { address: 100 }).unwrap();
+    step(&mut m, Request::Unpin { address: 100 }).unwrap();
     assert!(insert(&mut m, 200, 10).is_ok());
     let mut m = small();
     read(&mut m, 100, 10).unwrap();
     read(&mut m, 100, 10).unwrap();
     release(&mut m, 100).unwrap();
-    assert_eq!(ask(&mut m, Request::Discard { address: 100 }), Err(8));
+    assert_eq!(step(&mut m, Request::Discard { address: 100 }), Err(8));
 }
 
 /// The maximum after an epoch with so many hits of 100, so many bytes held throughout.
@@ -142,7 +142,7 @@ fn p9_to_p11() {
     insert(&mut m, 1, 100).unwrap();
     insert(&mut m, 2, 100).unwrap();
     assert_eq!(insert(&mut m, 3, 100), Err(11));
-    ask(&mut m, Request::Flush).unwrap();
+    step(&mut m, Request::Flush).unwrap();
     assert_eq!(insert(&mut m, 3, 100), Ok(vec![Order::Evict { address: 1, size: 100 }]));
 }
 
