@@ -192,6 +192,11 @@ impl Entry {
     pub fn is_listed(&self) -> bool {
         self.hold == Hold::Free && !self.pinned
     }
+
+    /// Whether its pin alone keeps it off the recency list.
+    pub fn is_pinned_only(&self) -> bool {
+        self.hold == Hold::Free && self.pinned
+    }
 }
 
 #[derive(Clone, Copy, Debug, PartialEq)]

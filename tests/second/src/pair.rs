@@ -46,17 +46,34 @@ pub enum Event {
     /// An insert, a changed release, a resize or a discard, the same for both: the first host gets
     /// it, then come requests of either, then the other gets it.
     Shared { asked: Asked, first: usize, between: Vec<Aside> },
+    /// The same by asking: both are asked, and if both say yes, the first host gets it, then come
+    /// requests of that host alone, then the other gets it. `after` is what was done to make both say
+    /// yes since they were asked last.
+    ByAsking { asked: Asked, first: usize, between: Vec<Aside>, after: Option<Help> },
     /// A flush or a sync of the lead, requests of either, and then the standby takes the list.
     List { asked: Asked, between: Vec<Aside> },
     /// A request at a settled point.
     Aside(Aside),
 }
 
+/// What may make a host accept a change that it would refuse.
+#[derive(Clone, Copy, Debug)]
+pub enum Help {
+    /// A flush or a sync of the lead, whose list the standby takes.
+    List,
+    /// A local request of the host.
+    Local,
+    /// A discard at both.
+    Discard,
+}
+
 impl Event {
     /// The requests between its two halves.
     pub fn between(&mut self) -> Option<&mut Vec<Aside>> {
         match self {
-            Event::Shared { between, .. } | Event::List { between, .. } => Some(between),
+            Event::Shared { between, .. } | Event::ByAsking { between, .. } | Event::List { between, .. } => {
+                Some(between)
+            }
             Event::Aside(_) => None,
         }
     }
@@ -67,6 +84,8 @@ pub struct Pair {
     pub threshold: u64,
     pub rows: [usize; 2],
     pub settings: [SettingsWords; 2],
+    /// Whether each shared change is asked of both before it is done.
+    pub by_asking: bool,
     pub events: Vec<Event>,
 }
 
@@ -75,12 +94,16 @@ pub struct Pair {
 /// The caches of both hosts, on which the model tries requests before they are made.
 type Models = [Model; 2];
 
-fn ask(m: &mut Model, asked: &Asked) -> Result<Vec<Order>, Refusal> {
+fn try_on(m: &mut Model, asked: &Asked) -> Result<Vec<Order>, Refusal> {
     m.step(&request_of(asked), &[], order_words(m.rows))
 }
 
+fn refusal(m: &Model, asked: &Asked) -> Option<Refusal> {
+    m.refusal(&request_of(asked), &[], order_words(m.rows))
+}
+
 fn accepts(m: &Model, asked: &Asked) -> bool {
-    m.refusal(&request_of(asked), &[], order_words(m.rows)).is_none()
+    refusal(m, asked).is_none()
 }
 
 /// Makes the request if a run may have it at one host alone: local ones as they come, no change that
@@ -95,6 +118,13 @@ fn hear(models: &mut Models, aside: &Aside) -> bool {
         }
         INSERT | RELEASE_CHANGED | RESIZE | DISCARD => false,
         _ => m.refusal(&request, &aside.list, lent).is_some(),
+    }
+}
+
+fn must_accept(answer: &Answer, what: impl Fn() -> String) -> Result<(), Difference> {
+    match answer.number {
+        0 => Ok(()),
+        _ => Err(Difference { what: what(), library: answer.to_string(), model: "accepted".to_string() }),
     }
 }
 
@@ -123,6 +153,8 @@ struct Hosts {
     threshold: u64,
     /// The list that the standby took last.
     taken: Vec<u64>,
+    /// The change that both were asked about last, if it was not done, and how often it was asked.
+    left: Option<(Asked, usize)>,
 }
 
 impl Hosts {
@@ -134,7 +166,8 @@ impl Hosts {
             let mode = host as u64 + 1;
             cache.open(table_words(rows), rows as u64, mode, pair.threshold, &pair.settings[host], tally)?;
         }
-        let hosts = Hosts { caches, ledger: Ledger::default(), threshold: pair.threshold, taken: Vec::new() };
+        let hosts =
+            Hosts { caches, ledger: Ledger::default(), threshold: pair.threshold, taken: Vec::new(), left: None };
         hosts.agree(tally)?;
         Ok(hosts)
     }
@@ -152,12 +185,17 @@ impl Hosts {
         let mut models = self.models();
         match event {
             Event::Shared { asked, first, between } => {
-                let by_first = ask(&mut models[*first], asked);
+                let by_first = try_on(&mut models[*first], asked);
                 between.iter().all(|aside| hear(&mut models, aside))
                     && accepts(&models[1 - first], asked) == by_first.is_ok()
             }
+            Event::ByAsking { asked, first, between, .. } => {
+                let done = models.iter().all(|m| accepts(m, asked));
+                let _ = try_on(&mut models[*first], asked);
+                !done || between.iter().all(|aside| aside.host == *first && hear(&mut models, aside))
+            }
             Event::List { asked, between } => {
-                let _ = ask(&mut models[LEAD], asked);
+                let _ = try_on(&mut models[LEAD], asked);
                 between.iter().all(|aside| hear(&mut models, aside))
             }
             Event::Aside(aside) => hear(&mut models, aside),
@@ -178,6 +216,87 @@ impl Hosts {
             d.what = format!("{}: {}", NAMES[host], d.what);
             d
         })
+    }
+
+    /// The ledger hears of a change that both accepted.
+    fn tell_ledger(&mut self, asked: &Asked) {
+        match asked.kind {
+            DISCARD => self.ledger.discard(asked.address),
+            _ => self.ledger.change(asked.address, asked.size),
+        }
+    }
+
+    /// Does a change at the host. It was asked before, and said yes.
+    fn step_after_yes(&mut self, host: usize, asked: &Asked, tally: &mut Tally) -> Result<(), Difference> {
+        let (answer, _) = self.step(host, asked, &[], 0, tally)?;
+        must_accept(&answer, || format!("{}: a change that it said yes to", NAMES[host]))
+    }
+
+    /// Asks both about a change, and does it at both if both say yes.
+    fn by_asking(
+        &mut self,
+        asked: &Asked,
+        first: usize,
+        between: &[Aside],
+        after: Option<Help>,
+        tally: &mut Tally,
+    ) -> Result<(), Difference> {
+        let mut told = [0; 2];
+        for (number, cache) in told.iter_mut().zip(&self.caches) {
+            *number = cache.told(cache.table.len(), cache.orders.len(), &[], asked)?.number;
+        }
+        let mut mark = |place| tally.pairs.mark(place);
+        mark(PairPlace::AskedOfBoth);
+        let number = match told {
+            [0, 0] => 0,
+            [number, 0] => {
+                mark(PairPlace::LeadAlone);
+                number
+            }
+            [0, number] => {
+                mark(PairPlace::StandbyAlone);
+                number
+            }
+            _ => {
+                mark(PairPlace::BothWouldRefuse);
+                0
+            }
+        };
+        match number {
+            6 => mark(PairPlace::AloneNotInCache),
+            7 => mark(PairPlace::AloneInCache),
+            8 => mark(PairPlace::AloneHeld),
+            9 => mark(PairPlace::AloneNotHeld),
+            10 => mark(PairPlace::AlonePinned),
+            11 => mark(PairPlace::AloneNoRow),
+            _ => {}
+        }
+        if told != [0, 0] {
+            let times = self.left.filter(|(change, _)| change == asked).map_or(0, |(_, times)| times);
+            self.left = Some((*asked, times + 1));
+            return Ok(());
+        }
+        self.left = None;
+        mark(PairPlace::BothSayYes);
+        match after {
+            None => {}
+            Some(Help::List) => mark(PairPlace::ListHelped),
+            Some(Help::Local) => mark(PairPlace::LocalHelped),
+            Some(Help::Discard) => mark(PairPlace::DiscardHelped),
+        }
+        if first == STANDBY {
+            mark(PairPlace::YesStandbyFirst);
+        }
+        if !between.is_empty() {
+            mark(PairPlace::YesRequestsBetween);
+        }
+        self.step_after_yes(first, asked, tally)?;
+        for aside in between {
+            self.aside(aside, When::BetweenHalves, tally)?;
+        }
+        self.step_after_yes(1 - first, asked, tally)?;
+        self.tell_ledger(asked);
+        Ok(())
     }
 
     fn aside(&mut self, aside: &Aside, when: When, tally: &mut Tally) -> Result<(), Difference> {
@@ -246,11 +365,11 @@ impl Hosts {
                     mark(PairPlace::StandbyFirst, *first == STANDBY);
                     mark(PairPlace::RequestsBetween, !between.is_empty());
                     mark(PairPlace::MadeReady, !was_ready);
-                    match asked.kind {
-                        DISCARD => self.ledger.discard(asked.address),
-                        _ => self.ledger.change(asked.address, asked.size),
-                    }
+                    self.tell_ledger(asked);
                 }
+            }
+            Event::ByAsking { asked, first, between, after } => {
+                self.by_asking(asked, *first, between, *after, tally)?;
             }
             Event::List { asked, between } => {
                 let (by_lead, orders) = self.step(LEAD, asked, &[], 0, tally)?;
@@ -262,14 +381,7 @@ impl Hosts {
                     let list = list_of(&orders);
                     let take = Asked { kind: TAKE, address: 0, size: 0, settings: [0; 22] };
                     let (by_standby, _) = self.step(STANDBY, &take, &list, 0, tally)?;
-                    if by_standby.number != 0 {
-                        let what = "the standby refuses a list".to_string();
-                        return Err(Difference {
-                            what,
-                            library: by_standby.to_string(),
-                            model: "accepted".to_string(),
-                        });
-                    }
+                    must_accept(&by_standby, || "the standby: a list that was sent".to_string())?;
                     self.ledger.list(&list);
                     tally.pairs.mark(PairPlace::ListTaken);
                     if !between.is_empty() {
@@ -347,7 +459,11 @@ struct Draw<'a> {
     r: &'a mut Random,
     phase: &'a Phase,
     scale: Scale,
+    by_asking: bool,
 }
+
+/// How often a change that is left is asked about.
+const MOST_TIMES: usize = 4;
 
 impl Draw<'_> {
     fn request(&mut self, m: &Model) -> Asked {
@@ -432,12 +548,64 @@ impl Draw<'_> {
         Some(Aside { host, asked: Asked { kind, ..*change }, list: Vec::new(), short: 0 })
     }
 
+    /// A local request of a host that may leave it an entry to evict.
+    fn freeing(&mut self, host: usize, m: &Model) -> Option<Aside> {
+        let found = |test: fn(&Entry) -> bool| m.entries.iter().find(|(_, e)| !e.dirty && test(e)).map(|(a, _)| *a);
+        let (kind, address) = match (found(|e| e.hold != Hold::Free), found(|e| e.is_pinned_only())) {
+            (Some(held), None) => (RELEASE_UNCHANGED, held),
+            (None, Some(pinned)) => (UNPIN, pinned),
+            (Some(held), Some(pinned)) => self.r.pick(&[(RELEASE_UNCHANGED, held), (UNPIN, pinned)]),
+            (None, None) => return None,
+        };
+        let asked = Asked { kind, address, size: 0, settings: [0; 22] };
+        Some(Aside { host, asked, list: Vec::new(), short: 0 })
+    }
+
+    /// What may help a change that a host would refuse.
+    fn help(&mut self, hosts: &Hosts, host: usize, change: &Asked) -> Option<(Event, Help)> {
+        let m = hosts.model(host);
+        let local = |aside: Option<Aside>| aside.map(|aside| (Event::Aside(aside), Help::Local));
+        match refusal(m, change)?.number {
+            6 | 8 | 9 | 10 => local(self.readying(host, m, change)),
+            7 => {
+                let asked = Asked { kind: DISCARD, ..*change };
+                match [LEAD, STANDBY].into_iter().find(|host| !accepts(hosts.model(*host), &asked)) {
+                    Some(host) => local(self.readying(host, hosts.model(host), &asked)),
+                    None => {
+                        Some((Event::ByAsking { asked, first: host, between: Vec::new(), after: None }, Help::Discard))
+                    }
+                }
+            }
+            11 if self.r.chance(40) => local(self.freeing(host, m)),
+            11 => {
+                let kind = self.r.pick(&[FLUSH, SYNC]);
+                Some((self.list(hosts, Asked { kind, ..*change }), Help::List))
+            }
+            _ => None,
+        }
+    }
+
+    /// The change that was left, once more; before it, if one or both would refuse it, what may help.
+    fn once_more(&mut self, hosts: &Hosts) -> Option<Vec<Event>> {
+        let (asked, _) = hosts.left.filter(|(_, times)| *times < MOST_TIMES)?;
+        let refusing: Vec<usize> =
+            [LEAD, STANDBY].into_iter().filter(|host| !accepts(hosts.model(*host), &asked)).collect();
+        let host = if refusing.is_empty() { return None } else { self.r.pick(&refusing) };
+        let (event, help) = self.help(hosts, host, &asked)?;
+        let first = self.r.below(2) as usize;
+        Some(vec![event, Event::ByAsking { asked, first, between: Vec::new(), after: Some(help) }])
+    }
+
     fn shared(&mut self, hosts: &Hosts, asked: Asked, first: usize) -> Event {
         let mut models = hosts.models();
         let other = 1 - first;
-        let accepted = ask(&mut models[first], &asked).is_ok();
+        let accepted = try_on(&mut models[first], &asked).is_ok();
         let right: Vec<u64> = models[STANDBY].dirty_records().into_keys().collect();
         let mut between = self.asides(&mut models, &right, &hosts.taken, Some(asked.address));
+        if self.by_asking {
+            between.retain(|aside| aside.host == first);
+            return Event::ByAsking { asked, first, between, after: None };
+        }
         if accepted && !accepts(&models[other], &asked) {
             between.extend(self.readying(other, &models[other], &asked));
         }
@@ -446,13 +614,18 @@ impl Draw<'_> {
 
     fn list(&mut self, hosts: &Hosts, asked: Asked) -> Event {
         let mut models = hosts.models();
-        let orders = ask(&mut models[LEAD], &asked).unwrap_or_default();
+        let orders = try_on(&mut models[LEAD], &asked).unwrap_or_default();
         let between = self.asides(&mut models, &list_of(&orders), &hosts.taken, None);
         Event::List { asked, between }
     }
 
-    /// The next events: one, or a write hold at both.
+    /// The next events: one, a write hold at both, or a change once more with what may help before it.
     fn next(&mut self, hosts: &Hosts) -> Vec<Event> {
+        if self.r.chance(70) {
+            if let Some(events) = self.once_more(hosts) {
+                return events;
+            }
+        }
         let host = match [LEAD, STANDBY].into_iter().find(|host| hosts.model(*host).no_row()) {
             Some(stuck) if self.r.chance(50) => stuck,
             _ => self.r.below(2) as usize,
@@ -507,10 +680,11 @@ pub fn play(seed: u64, tally: &mut Tally) -> Result<(), Box<(Pair, Difference)>>
     let rows = [(); 2].map(|_| r.between(2, most) as usize);
     let settings = rows.map(|n| requests::any_settings(&mut r, n, scale, true));
     let threshold = if r.chance(80) { r.between(1, 8_000) } else { r.between(1, THRESHOLD_LIMIT) };
-    let mut pair = Pair { threshold, rows, settings, events: Vec::new() };
+    let mut pair = Pair { threshold, rows, settings, by_asking: r.chance(50), events: Vec::new() };
     let outcome = go_on(&mut r, &mut pair, scale, tally);
     tally.runs += 1;
     tally.pair_runs += 1;
+    tally.pair_runs_by_asking += pair.by_asking as u64;
     outcome.map_err(|difference| Box::new((pair, difference)))
 }
 
@@ -521,7 +695,7 @@ fn go_on(r: &mut Random, pair: &mut Pair, scale: Scale, tally: &mut Tally) -> Re
         if r.chance(2) {
             phase = Phase::any(r);
         }
-        for event in (Draw { r, phase: &phase, scale }).next(&hosts) {
+        for event in (Draw { r, phase: &phase, scale, by_asking: pair.by_asking }).next(&hosts) {
             pair.events.push(event);
             hosts.happen(pair.events.last().unwrap(), tally)?;
         }
@@ -554,7 +728,10 @@ impl std::fmt::Display for Pair {
                     writeln!(f, "{aside}")?;
                     continue;
                 }
-                Event::Shared { asked, first, between } => {
+                Event::Shared { asked, first, between } | Event::ByAsking { asked, first, between, .. } => {
+                    if matches!(event, Event::ByAsking { .. }) {
+                        writeln!(f, "both asked; what follows is done if both say yes")?;
+                    }
                     ([*first, 1 - first].map(|host| format!("{}: {}", NAMES[host], asked_text(asked, &[]))), between)
                 }
                 Event::List { asked, between } => {

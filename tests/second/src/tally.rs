@@ -9,6 +9,7 @@ pub struct Tally {
     pub runs: u64,
     pub largest_runs: u64,
     pub pair_runs: u64,
+    pub pair_runs_by_asking: u64,
     /// Openings and steps.
     pub requests: u64,
     pub largest_requests: u64,
@@ -79,6 +80,7 @@ impl Tally {
         self.asked.iter().for_each(line);
         println!("\nlead and standby");
         line(("runs", self.pair_runs));
+        line(("  by asking", self.pair_runs_by_asking));
         line(("longest list", self.longest_list));
         self.pairs.iter().for_each(line);
     }
