@@ -1,6 +1,7 @@
 /* Worked cases and bad input through the C interface. Also compiles as C++. */
 #include "expect.h"
 #include "speldervacht.h"
+#include "step.h"
 
 #include <string.h>
 
@@ -11,8 +12,12 @@
 static uint64_t table[TABLE];
 static uint64_t orders[ORDERS];
 
-static speldervacht_answer ask(uint64_t kind, uint64_t address, uint64_t size) {
-    return speldervacht_step(table, TABLE, orders, ORDERS, NULL, 0, speldervacht_request_of(kind, address, size));
+static speldervacht_answer step(uint64_t kind, uint64_t address, uint64_t size) {
+    return checked_step(table, TABLE, orders, ORDERS, NULL, 0, speldervacht_request_of(kind, address, size));
+}
+
+static uint64_t told_with(speldervacht_request request, size_t table_words, size_t order_words) {
+    return checked_ask(table, table_words, order_words, NULL, 0, request).number;
 }
 
 static int order_is(int at, uint64_t kind, uint64_t address, uint64_t size) {
@@ -39,9 +44,9 @@ static void three_inserts(void) {
     speldervacht_answer answer;
     speldervacht_figures figures;
     expect(open_small(SPELDERVACHT_ALONE) == SPELDERVACHT_ACCEPTED, "opening");
-    expect(ask(SPELDERVACHT_INSERT, 100, 3000).orders == 0, "the first insert gives no orders");
-    expect(ask(SPELDERVACHT_INSERT, 200, 1000).orders == 0, "the second insert gives no orders");
-    answer = ask(SPELDERVACHT_INSERT, 300, 500);
+    expect(step(SPELDERVACHT_INSERT, 100, 3000).orders == 0, "the first insert gives no orders");
+    expect(step(SPELDERVACHT_INSERT, 200, 1000).orders == 0, "the second insert gives no orders");
+    answer = step(SPELDERVACHT_INSERT, 300, 500);
     expect(answer.number == SPELDERVACHT_ACCEPTED && answer.orders == 3, "the third insert gives three");
     expect(order_is(0, SPELDERVACHT_WRITE, 100, 3000), "write 100 3000");
     expect(order_is(1, SPELDERVACHT_WRITE, 200, 1000), "write 200 1000");
@@ -53,22 +58,22 @@ static void three_inserts(void) {
 
 static void one_entry(void) {
     expect(open_small(SPELDERVACHT_ALONE) == SPELDERVACHT_ACCEPTED, "opening");
-    expect(ask(SPELDERVACHT_PROTECT_FOR_WRITING, 100, 10).orders == 1 && order_is(0, SPELDERVACHT_LOAD, 100, 10),
+    expect(step(SPELDERVACHT_PROTECT_FOR_WRITING, 100, 10).orders == 1 && order_is(0, SPELDERVACHT_LOAD, 100, 10),
            "load 100 10");
-    expect(ask(SPELDERVACHT_PROTECT_FOR_READING, 100, 10).number == SPELDERVACHT_HELD, "held for writing");
-    expect(ask(SPELDERVACHT_RESIZE, 100, 20).number == SPELDERVACHT_ACCEPTED, "resize");
+    expect(step(SPELDERVACHT_PROTECT_FOR_READING, 100, 10).number == SPELDERVACHT_HELD, "held for writing");
+    expect(step(SPELDERVACHT_RESIZE, 100, 20).number == SPELDERVACHT_ACCEPTED, "resize");
     expect(speldervacht_report(table, TABLE).dirty == 20, "20 dirty");
-    expect(ask(SPELDERVACHT_PIN, 100, 0).number == SPELDERVACHT_ACCEPTED, "pin");
-    expect(ask(SPELDERVACHT_RELEASE_CHANGED, 100, 30).number == SPELDERVACHT_ACCEPTED, "release changed");
-    expect(ask(SPELDERVACHT_DISCARD, 100, 0).number == SPELDERVACHT_PIN_FORBIDS, "discard of a pinned entry");
-    expect(ask(SPELDERVACHT_UNPIN, 100, 0).number == SPELDERVACHT_ACCEPTED, "unpin");
-    expect(ask(SPELDERVACHT_FLUSH, 0, 0).orders == 1 && order_is(0, SPELDERVACHT_WRITE, 100, 30), "write 100 30");
-    ask(SPELDERVACHT_PROTECT_FOR_READING, 100, 10);
-    expect(ask(SPELDERVACHT_PROTECT_FOR_READING, 100, 10).number == SPELDERVACHT_ACCEPTED, "two readers");
-    ask(SPELDERVACHT_RELEASE_UNCHANGED, 100, 0);
-    expect(ask(SPELDERVACHT_DISCARD, 100, 0).number == SPELDERVACHT_HELD, "one reader left");
-    ask(SPELDERVACHT_RELEASE_UNCHANGED, 100, 0);
-    expect(ask(SPELDERVACHT_DISCARD, 100, 0).number == SPELDERVACHT_ACCEPTED, "discard");
+    expect(step(SPELDERVACHT_PIN, 100, 0).number == SPELDERVACHT_ACCEPTED, "pin");
+    expect(step(SPELDERVACHT_RELEASE_CHANGED, 100, 30).number == SPELDERVACHT_ACCEPTED, "release changed");
+    expect(step(SPELDERVACHT_DISCARD, 100, 0).number == SPELDERVACHT_PIN_FORBIDS, "discard of a pinned entry");
+    expect(step(SPELDERVACHT_UNPIN, 100, 0).number == SPELDERVACHT_ACCEPTED, "unpin");
+    expect(step(SPELDERVACHT_FLUSH, 0, 0).orders == 1 && order_is(0, SPELDERVACHT_WRITE, 100, 30), "write 100 30");
+    step(SPELDERVACHT_PROTECT_FOR_READING, 100, 10);
+    expect(step(SPELDERVACHT_PROTECT_FOR_READING, 100, 10).number == SPELDERVACHT_ACCEPTED, "two readers");
+    step(SPELDERVACHT_RELEASE_UNCHANGED, 100, 0);
+    expect(step(SPELDERVACHT_DISCARD, 100, 0).number == SPELDERVACHT_HELD, "one reader left");
+    step(SPELDERVACHT_RELEASE_UNCHANGED, 100, 0);
+    expect(step(SPELDERVACHT_DISCARD, 100, 0).number == SPELDERVACHT_ACCEPTED, "discard");
     expect(speldervacht_report(table, TABLE).entries == 0, "no entries");
 }
 
@@ -95,21 +100,23 @@ static void refusals(void) {
     speldervacht_answer answer;
     uint64_t before[TABLE];
     memcpy(before, table, sizeof table);
-    expect(ask(SPELDERVACHT_INSERT, SPELDERVACHT_NO_ADDRESS, 0).number == SPELDERVACHT_BAD_ADDRESS, "3");
-    expect(ask(SPELDERVACHT_INSERT, 1, 0).number == SPELDERVACHT_BAD_SIZE, "4");
-    expect(ask(SPELDERVACHT_SYNC, 0, 0).number == SPELDERVACHT_BAD_MODE, "5");
-    expect(ask(14, 0, 0).number == SPELDERVACHT_BAD_MODE, "an unknown kind");
-    expect(ask(SPELDERVACHT_PIN, 1, 0).number == SPELDERVACHT_NOT_IN_CACHE, "6");
-    expect(ask(SPELDERVACHT_INSERT, 200, 1).number == SPELDERVACHT_IN_CACHE, "7");
-    expect(ask(SPELDERVACHT_RELEASE_CHANGED, 200, 1).number == SPELDERVACHT_NOT_HELD, "9");
-    expect(ask(SPELDERVACHT_UNPIN, 200, 0).number == SPELDERVACHT_PIN_FORBIDS, "10");
+    expect(step(SPELDERVACHT_INSERT, SPELDERVACHT_NO_ADDRESS, 0).number == SPELDERVACHT_BAD_ADDRESS, "3");
+    expect(step(SPELDERVACHT_INSERT, 1, 0).number == SPELDERVACHT_BAD_SIZE, "4");
+    expect(step(SPELDERVACHT_SYNC, 0, 0).number == SPELDERVACHT_BAD_MODE, "5");
+    expect(step(14, 0, 0).number == SPELDERVACHT_BAD_MODE, "an unknown kind");
+    expect(step(SPELDERVACHT_PIN, 1, 0).number == SPELDERVACHT_NOT_IN_CACHE, "6");
+    expect(step(SPELDERVACHT_INSERT, 200, 1).number == SPELDERVACHT_IN_CACHE, "7");
+    expect(step(SPELDERVACHT_RELEASE_CHANGED, 200, 1).number == SPELDERVACHT_NOT_HELD, "9");
+    expect(step(SPELDERVACHT_UNPIN, 200, 0).number == SPELDERVACHT_PIN_FORBIDS, "10");
     configure.settings = small_settings();
     configure.settings.decrement_kind = 7;
-    answer = speldervacht_step(table, TABLE, orders, ORDERS, NULL, 0, configure);
+    answer = checked_step(table, TABLE, orders, ORDERS, NULL, 0, configure);
     expect(answer.number == SPELDERVACHT_BAD_SETTING && answer.field == 12, "12, field 12");
-    answer = speldervacht_step(table, TABLE, NULL, 0, NULL, 0, configure);
+    answer = checked_step(table, TABLE, NULL, 0, NULL, 0, configure);
     expect(answer.number == SPELDERVACHT_FEW_ORDER_WORDS && answer.field == 0, "2");
-    expect(speldervacht_step(NULL, 0, NULL, 0, NULL, 0, configure).number == SPELDERVACHT_BAD_TABLE, "1");
+    expect(checked_step(NULL, 0, NULL, 0, NULL, 0, configure).number == SPELDERVACHT_BAD_TABLE, "1");
+    expect(checked_step(table, TABLE - 1, orders, ORDERS, NULL, 0, configure).number == SPELDERVACHT_BAD_TABLE,
+           "a request on a short table");
     expect(speldervacht_report(NULL, 0).number == SPELDERVACHT_BAD_TABLE, "the report of nothing");
     expect(speldervacht_report(table, TABLE - 1).number == SPELDERVACHT_BAD_TABLE, "a short table");
     expect(speldervacht_open(table, TABLE - 1, ROWS, 0, 1, small_settings()).number == SPELDERVACHT_BAD_TABLE,
@@ -117,29 +124,77 @@ static void refusals(void) {
     expect(open_small(3) == SPELDERVACHT_BAD_MODE, "opening in an unknown mode");
     expect(memcmp(before, table, sizeof table) == 0, "refusals change nothing");
     table[6]++;
-    expect(ask(SPELDERVACHT_DISCARD, 1, 0).number == SPELDERVACHT_BAD_TABLE, "more hits than accesses");
+    expect(step(SPELDERVACHT_DISCARD, 1, 0).number == SPELDERVACHT_BAD_TABLE, "more hits than accesses");
     table[6]--;
-    expect(ask(SPELDERVACHT_DISCARD, 1, 0).number == SPELDERVACHT_ACCEPTED, "the table as it was");
+    expect(step(SPELDERVACHT_DISCARD, 1, 0).number == SPELDERVACHT_ACCEPTED, "the table as it was");
+}
+
+/* Requests that are asked about and not done. */
+static void asking(void) {
+    const uint64_t unknown[] = {0, SPELDERVACHT_CONFIGURE + 1, UINT64_MAX};
+    const uint64_t twice[] = {100, 100};
+    speldervacht_request insert = speldervacht_request_of(SPELDERVACHT_INSERT, 200, 10);
+    speldervacht_request pin = speldervacht_request_of(SPELDERVACHT_PIN, 100, 0);
+    speldervacht_request take = speldervacht_request_of(SPELDERVACHT_TAKE, 0, 0);
+    speldervacht_request configure = speldervacht_request_of(SPELDERVACHT_CONFIGURE, 0, 0);
+    speldervacht_verdict verdict;
+    expect(open_small(SPELDERVACHT_STANDBY) == SPELDERVACHT_ACCEPTED, "opening a standby");
+    step(SPELDERVACHT_INSERT, 100, 10);
+    expect(told_with(insert, TABLE, 0) == SPELDERVACHT_FEW_ORDER_WORDS, "an insert with no order words");
+    expect(told_with(insert, TABLE, ORDERS - 1) == SPELDERVACHT_FEW_ORDER_WORDS, "with one too few");
+    expect(told_with(insert, TABLE, ORDERS) == SPELDERVACHT_ACCEPTED, "with enough");
+    expect(told_with(insert, TABLE, SIZE_MAX) == SPELDERVACHT_ACCEPTED, "with more");
+    expect(told_with(pin, TABLE, 0) == SPELDERVACHT_NOT_HELD, "a pin, which needs none");
+    expect(told_with(insert, TABLE - 1, ORDERS) == SPELDERVACHT_BAD_TABLE, "a short table");
+    expect(told_with(insert, 0, ORDERS) == SPELDERVACHT_BAD_TABLE, "no table");
+    expect(checked_ask(table, TABLE, 0, twice, 1, take).number == SPELDERVACHT_ACCEPTED, "a list");
+    expect(checked_ask(table, TABLE, 0, twice, 2, take).number == SPELDERVACHT_BAD_LIST, "an address twice");
+    configure.settings = small_settings();
+    expect(told_with(configure, TABLE, ORDERS) == SPELDERVACHT_ACCEPTED, "settings");
+    configure.settings.epoch = SPELDERVACHT_SHORTEST_EPOCH - 1;
+    verdict = checked_ask(table, TABLE, ORDERS, NULL, 0, configure);
+    expect(verdict.number == SPELDERVACHT_BAD_SETTING && verdict.field == 7, "a bad setting and its field");
+    for (size_t i = 0; i < sizeof unknown / sizeof unknown[0]; i++) {
+        speldervacht_request request = speldervacht_request_of(unknown[i], 100, 10);
+        expect(told_with(request, TABLE, ORDERS) == SPELDERVACHT_BAD_MODE, "an unknown kind");
+        expect(told_with(request, TABLE - 1, ORDERS) == SPELDERVACHT_BAD_TABLE, "one of a short table");
+    }
+    table[6]++;
+    for (uint64_t kind = 0; kind <= SPELDERVACHT_CONFIGURE + 1; kind++) {
+        speldervacht_request request = speldervacht_request_of(kind, 100, 10);
+        expect(told_with(request, TABLE, ORDERS) == SPELDERVACHT_BAD_TABLE, "more hits than accesses");
+    }
+    table[6]--;
+    expect(step(SPELDERVACHT_INSERT, 200, 10).number == SPELDERVACHT_ACCEPTED, "what was told is done");
+}
+
+static void everything_is_told(void) {
+    for (size_t number = 0; number <= SPELDERVACHT_BAD_LIST; number++) {
+        expect(told[number] != 0, "each number is told");
+    }
+    for (size_t kind = 1; kind <= SPELDERVACHT_CONFIGURE; kind++) {
+        expect(told_yes[kind] != 0, "a yes to each kind is told");
+    }
 }
 
 static void lists(void) {
     const uint64_t list[2] = {100, 200};
     speldervacht_request take = speldervacht_request_of(SPELDERVACHT_TAKE, 0, 0);
     expect(open_small(SPELDERVACHT_STANDBY) == SPELDERVACHT_ACCEPTED, "opening a standby");
-    ask(SPELDERVACHT_INSERT, 100, 10);
-    expect(speldervacht_step(table, TABLE, NULL, 0, list, 2, take).number == SPELDERVACHT_BAD_LIST, "13");
-    ask(SPELDERVACHT_INSERT, 200, 20);
+    step(SPELDERVACHT_INSERT, 100, 10);
+    expect(checked_step(table, TABLE, NULL, 0, list, 2, take).number == SPELDERVACHT_BAD_LIST, "13");
+    step(SPELDERVACHT_INSERT, 200, 20);
     expect(speldervacht_report(table, TABLE).dirty == 30, "30 dirty");
-    expect(speldervacht_step(table, TABLE, NULL, 0, list, 2, take).number == SPELDERVACHT_ACCEPTED, "a list");
+    expect(checked_step(table, TABLE, NULL, 0, list, 2, take).number == SPELDERVACHT_ACCEPTED, "a list");
     expect(speldervacht_report(table, TABLE).dirty == 0, "none dirty");
     expect(open_small(SPELDERVACHT_LEAD) == SPELDERVACHT_ACCEPTED, "opening a lead");
     for (uint64_t address = 1; address <= ROWS; address++) {
-        ask(SPELDERVACHT_INSERT, address, 10);
+        step(SPELDERVACHT_INSERT, address, 10);
     }
-    expect(ask(SPELDERVACHT_INSERT, 5, 10).number == SPELDERVACHT_NO_ROW, "11");
-    expect(ask(SPELDERVACHT_SYNC, 0, 0).number == SPELDERVACHT_ACCEPTED, "sync");
-    expect(ask(SPELDERVACHT_FLUSH, 0, 0).orders == ROWS, "flush");
-    expect(ask(SPELDERVACHT_INSERT, 5, 10).number == SPELDERVACHT_ACCEPTED, "a row again");
+    expect(step(SPELDERVACHT_INSERT, 5, 10).number == SPELDERVACHT_NO_ROW, "11");
+    expect(step(SPELDERVACHT_SYNC, 0, 0).number == SPELDERVACHT_ACCEPTED, "sync");
+    expect(step(SPELDERVACHT_FLUSH, 0, 0).orders == ROWS, "flush");
+    expect(step(SPELDERVACHT_INSERT, 5, 10).number == SPELDERVACHT_ACCEPTED, "a row again");
 }
 
 int main(void) {
@@ -148,5 +203,7 @@ int main(void) {
     lists();
     one_entry();
     rule_kinds();
+    asking();
+    everything_is_told();
     return outcome("all cases hold");
 }

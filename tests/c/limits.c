@@ -2,6 +2,7 @@
  * C++. */
 #include "expect.h"
 #include "speldervacht.h"
+#include "step.h"
 
 #define MORE_ROWS (SPELDERVACHT_MOST_ROWS + 1)
 #define ROWS 2
@@ -17,8 +18,8 @@ static uint64_t opened(uint64_t rows, uint64_t threshold) {
         .number;
 }
 
-static uint64_t ask(uint64_t kind, uint64_t address, uint64_t size) {
-    return speldervacht_step(table, TABLE, orders, ORDERS, NULL, 0, speldervacht_request_of(kind, address, size))
+static uint64_t step(uint64_t kind, uint64_t address, uint64_t size) {
+    return checked_step(table, TABLE, orders, ORDERS, NULL, 0, speldervacht_request_of(kind, address, size))
         .number;
 }
 
@@ -30,7 +31,7 @@ static void open_fresh(void) {
 static uint64_t bad_field(speldervacht_settings settings) {
     speldervacht_request configure = speldervacht_request_of(SPELDERVACHT_CONFIGURE, 0, 0);
     configure.settings = settings;
-    return speldervacht_step(table, TABLE, orders, ORDERS, NULL, 0, configure).field;
+    return checked_step(table, TABLE, orders, ORDERS, NULL, 0, configure).field;
 }
 
 static void rows_and_words(void) {
@@ -45,10 +46,10 @@ static void rows_and_words(void) {
                SPELDERVACHT_BAD_TABLE,
            "a table word too few");
     expect(opened(rows, 1) == SPELDERVACHT_ACCEPTED, "the most rows");
-    expect(speldervacht_step(table, words, orders, order_words - 1, NULL, 0, insert).number ==
+    expect(checked_step(table, words, orders, order_words - 1, NULL, 0, insert).number ==
                SPELDERVACHT_FEW_ORDER_WORDS,
            "an order word too few");
-    expect(speldervacht_step(table, words, orders, order_words, NULL, 0, insert).number == SPELDERVACHT_ACCEPTED,
+    expect(checked_step(table, words, orders, order_words, NULL, 0, insert).number == SPELDERVACHT_ACCEPTED,
            "order words enough");
 }
 
@@ -61,27 +62,27 @@ static void thresholds(void) {
 
 static void entries(void) {
     open_fresh();
-    expect(ask(SPELDERVACHT_INSERT, 1, 0) == SPELDERVACHT_BAD_SIZE, "an entry of no bytes");
-    expect(ask(SPELDERVACHT_INSERT, 1, 1) == SPELDERVACHT_ACCEPTED, "an entry of one byte");
-    expect(ask(SPELDERVACHT_INSERT, 2, SPELDERVACHT_LARGEST_ENTRY + 1) == SPELDERVACHT_BAD_SIZE,
+    expect(step(SPELDERVACHT_INSERT, 1, 0) == SPELDERVACHT_BAD_SIZE, "an entry of no bytes");
+    expect(step(SPELDERVACHT_INSERT, 1, 1) == SPELDERVACHT_ACCEPTED, "an entry of one byte");
+    expect(step(SPELDERVACHT_INSERT, 2, SPELDERVACHT_LARGEST_ENTRY + 1) == SPELDERVACHT_BAD_SIZE,
            "above the largest entry");
-    expect(ask(SPELDERVACHT_INSERT, 2, SPELDERVACHT_LARGEST_ENTRY) == SPELDERVACHT_ACCEPTED, "the largest entry");
-    expect(ask(SPELDERVACHT_INSERT, SPELDERVACHT_NO_ADDRESS, 1) == SPELDERVACHT_BAD_ADDRESS, "no address");
-    expect(ask(SPELDERVACHT_INSERT, SPELDERVACHT_NO_ADDRESS - 1, 1) == SPELDERVACHT_ACCEPTED, "the last address");
+    expect(step(SPELDERVACHT_INSERT, 2, SPELDERVACHT_LARGEST_ENTRY) == SPELDERVACHT_ACCEPTED, "the largest entry");
+    expect(step(SPELDERVACHT_INSERT, SPELDERVACHT_NO_ADDRESS, 1) == SPELDERVACHT_BAD_ADDRESS, "no address");
+    expect(step(SPELDERVACHT_INSERT, SPELDERVACHT_NO_ADDRESS - 1, 1) == SPELDERVACHT_ACCEPTED, "the last address");
 }
 
 static void readers(void) {
     open_fresh();
     for (uint64_t reader = 1; reader <= SPELDERVACHT_MOST_READERS; reader++) {
-        expect(ask(SPELDERVACHT_PROTECT_FOR_READING, 1, 1) == SPELDERVACHT_ACCEPTED, "a reader");
+        expect(step(SPELDERVACHT_PROTECT_FOR_READING, 1, 1) == SPELDERVACHT_ACCEPTED, "a reader");
     }
-    expect(ask(SPELDERVACHT_PROTECT_FOR_READING, 1, 1) == SPELDERVACHT_HELD, "a reader too many");
+    expect(step(SPELDERVACHT_PROTECT_FOR_READING, 1, 1) == SPELDERVACHT_HELD, "a reader too many");
 }
 
 /* One more insert, and what the byte count is then. */
 static uint64_t count_after(uint64_t size) {
-    expect(ask(SPELDERVACHT_INSERT, 1, size) == SPELDERVACHT_ACCEPTED, "an insert");
-    expect(ask(SPELDERVACHT_DISCARD, 1, 0) == SPELDERVACHT_ACCEPTED, "a discard");
+    expect(step(SPELDERVACHT_INSERT, 1, size) == SPELDERVACHT_ACCEPTED, "an insert");
+    expect(step(SPELDERVACHT_DISCARD, 1, 0) == SPELDERVACHT_ACCEPTED, "a discard");
     return speldervacht_report(table, TABLE).count;
 }
 
@@ -105,13 +106,13 @@ static void idle_counts(void) {
     settings.epoch = SPELDERVACHT_SHORTEST_EPOCH;
     open_fresh();
     expect(bad_field(settings) == 0, "short epochs");
-    expect(ask(SPELDERVACHT_INSERT, 1, 7) == SPELDERVACHT_ACCEPTED, "an entry");
+    expect(step(SPELDERVACHT_INSERT, 1, 7) == SPELDERVACHT_ACCEPTED, "an entry");
     for (uint64_t epoch = 0; epoch <= last + 1; epoch++) {
         speldervacht_figures figures = speldervacht_report(table, TABLE);
         expect(figures.totals[epoch < last ? epoch : last] >= 7, "the entry's idle count");
         for (uint64_t access = 0; access < settings.epoch; access++) {
-            expect(ask(SPELDERVACHT_PROTECT_FOR_READING, 2, 1) == SPELDERVACHT_ACCEPTED, "an access");
-            expect(ask(SPELDERVACHT_RELEASE_UNCHANGED, 2, 0) == SPELDERVACHT_ACCEPTED, "its release");
+            expect(step(SPELDERVACHT_PROTECT_FOR_READING, 2, 1) == SPELDERVACHT_ACCEPTED, "an access");
+            expect(step(SPELDERVACHT_RELEASE_UNCHANGED, 2, 0) == SPELDERVACHT_ACCEPTED, "its release");
         }
     }
 }
