@@ -1,9 +1,30 @@
-//! The worked cases of the rules, and every refusal, through the safe functions.
+//! The worked cases of the rules, and every refusal, through the safe functions. Each request is asked
+//! about before it is done.
 
 use speldervacht::{
-    open, order_words, report, step, table_words, Decrease, Flash, Hold, Increase, Mode, Refusal, Request, Settings,
-    COUNT_STOP, DEFAULT_THRESHOLD, LARGEST_ENTRY, LARGEST_THRESHOLD, MOST_ROWS, NO_ADDRESS,
+    ask, open, order_words, raw, report, table_words, Decrease, Flash, Hold, Increase, Mode, Order, Refusal, Request,
+    Settings, COUNT_STOP, DEFAULT_THRESHOLD, LARGEST_ENTRY, LARGEST_THRESHOLD, MOST_ROWS, NO_ADDRESS,
 };
+
+/// What asking tells. It changes no word.
+fn checked_ask(table: &[u64], order_words: usize, request: &Request) -> Result<(), Refusal> {
+    let before = table.to_vec();
+    let told = ask(table, order_words, request);
+    assert_eq!(table, before, "asking changes nothing");
+    told
+}
+
+/// Does a request. It is answered what asking told before, and a refusal changes nothing.
+fn step(table: &mut [u64], orders: &mut [u64], request: &Request) -> Result<Vec<Order>, Refusal> {
+    let told = checked_ask(table, orders.len(), request);
+    let before = (table.to_vec(), orders.to_vec());
+    let answer = speldervacht::step(table, orders, request).map(|given| given.collect::<Vec<Order>>());
+    assert_eq!(answer.as_ref().map(|_| ()).map_err(|refusal| *refusal), told, "the answer is what asking told");
+    if answer.is_err() {
+        assert_eq!((table.to_vec(), orders.to_vec()), before, "a refusal changes nothing");
+    }
+    answer
+}
 
 struct Cache {
     table: Vec<u64>,
@@ -22,31 +43,27 @@ impl Cache {
         Cache::open(rows, mode, DEFAULT_THRESHOLD, &small())
     }
 
-    fn ask(&mut self, request: Request) -> Result<Vec<String>, u64> {
-        let before = (self.table.clone(), self.orders.clone());
+    fn step(&mut self, request: Request) -> Result<Vec<String>, u64> {
         match step(&mut self.table, &mut self.orders, &request) {
-            Ok(orders) => Ok(orders.map(|order| order.to_string()).collect()),
-            Err(refusal) => {
-                assert_eq!((&self.table, &self.orders), (&before.0, &before.1), "a refusal changes nothing");
-                Err(refusal.number())
-            }
+            Ok(orders) => Ok(orders.iter().map(Order::to_string).collect()),
+            Err(refusal) => Err(refusal.number()),
         }
     }
 
     fn insert(&mut self, address: u64, size: u64) -> Result<Vec<String>, u64> {
-        self.ask(Request::Insert { address, size })
+        self.step(Request::Insert { address, size })
     }
 
     fn read(&mut self, address: u64, size: u64) -> Result<Vec<String>, u64> {
-        self.ask(Request::ProtectForReading { address, size })
+        self.step(Request::ProtectForReading { address, size })
     }
 
     fn write(&mut self, address: u64, size: u64) -> Result<Vec<String>, u64> {
-        self.ask(Request::ProtectForWriting { address, size })
+        self.step(Request::ProtectForWriting { address, size })
     }
 
     fn release(&mut self, address: u64) -> Result<Vec<String>, u64> {
-        self.ask(Request::ReleaseUnchanged { address })
+        self.step(Request::ReleaseUnchanged { address })
     }
 
     fn refusal(&mut self, request: Request) -> String {
@@ -96,10 +113,10 @@ fn what_fits_exactly_gives_no_orders() {
 fn a_pinned_entry_stays() {
     let mut cache = Cache::small(1, Mode::Alone);
     assert_eq!(cache.read(100, 10).unwrap(), ["load 100 10"]);
-    cache.ask(Request::Pin { address: 100 }).unwrap();
+    cache.step(Request::Pin { address: 100 }).unwrap();
     cache.release(100).unwrap();
     assert_eq!(cache.insert(200, 10), Err(11));
-    cache.ask(Request::Unpin { address: 100 }).unwrap();
+    cache.step(Request::Unpin { address: 100 }).unwrap();
     assert_eq!(cache.insert(200, 10).unwrap(), ["evict 100 10"]);
 }
 
@@ -109,9 +126,9 @@ fn one_of_two_readers_still_holds() {
     cache.read(100, 10).unwrap();
     cache.read(100, 10).unwrap();
     cache.release(100).unwrap();
-    assert_eq!(cache.ask(Request::Discard { address: 100 }), Err(8));
+    assert_eq!(cache.step(Request::Discard { address: 100 }), Err(8));
     cache.release(100).unwrap();
-    assert_eq!(cache.ask(Request::Discard { address: 100 }), NONE);
+    assert_eq!(cache.step(Request::Discard { address: 100 }), NONE);
 }
 
 #[test]
@@ -171,7 +188,7 @@ fn a_list_is_due_above_the_threshold() {
     cache.insert(2, 200).unwrap();
     let figures = report(&cache.table).unwrap();
     assert_eq!((figures.count, figures.due), (1_200, true));
-    assert_eq!(cache.ask(Request::Sync), NONE);
+    assert_eq!(cache.step(Request::Sync), NONE);
     assert_eq!(report(&cache.table).unwrap().count, 0);
 }
 
@@ -184,15 +201,15 @@ fn a_standby_takes_what_the_lead_wrote() {
         standby.insert(address, size).unwrap();
     }
     let orders = step(&mut lead.table, &mut lead.orders, &Request::Flush).unwrap();
-    let list: Vec<u64> = orders.map(|order| order.address).collect();
+    let list: Vec<u64> = orders.iter().map(|order| order.address).collect();
     assert_eq!(list, [100, 200, 300]);
-    assert_eq!(standby.ask(Request::Take { list: &[100, 100] }), Err(13));
-    assert_eq!(standby.ask(Request::Take { list: &[100, 400] }), Err(13));
-    assert_eq!(standby.ask(Request::Take { list: &[NO_ADDRESS] }), Err(3));
-    assert_eq!(standby.ask(Request::Take { list: &list }), NONE);
+    assert_eq!(standby.step(Request::Take { list: &[100, 100] }), Err(13));
+    assert_eq!(standby.step(Request::Take { list: &[100, 400] }), Err(13));
+    assert_eq!(standby.step(Request::Take { list: &[NO_ADDRESS] }), Err(3));
+    assert_eq!(standby.step(Request::Take { list: &list }), NONE);
     assert_eq!(report(&standby.table).unwrap().dirty, 0);
-    assert_eq!(standby.ask(Request::Take { list: &[] }), NONE);
-    assert_eq!(lead.ask(Request::Take { list: &[] }), Err(5));
+    assert_eq!(standby.step(Request::Take { list: &[] }), NONE);
+    assert_eq!(lead.step(Request::Take { list: &[] }), Err(5));
 }
 
 #[test]
@@ -201,7 +218,7 @@ fn a_lead_gives_up_only_clean_entries() {
     lead.insert(1, 100).unwrap();
     lead.insert(2, 100).unwrap();
     assert_eq!(lead.insert(3, 100), Err(11));
-    assert_eq!(lead.ask(Request::Flush).unwrap(), ["write 1 100", "write 2 100"]);
+    assert_eq!(lead.step(Request::Flush).unwrap(), ["write 1 100", "write 2 100"]);
     assert_eq!(lead.insert(3, 100).unwrap(), ["evict 1 100"]);
 }
 
@@ -273,6 +290,114 @@ fn short_slices_are_refused() {
     assert_eq!(step(&mut table, &mut [], &Request::Pin { address: 1 }).unwrap_err().number(), 6);
 }
 
+/// Alone: 100 is dirty, 200 is held for writing, 300 is read and pinned.
+fn busy() -> Cache {
+    let mut cache = Cache::small(4, Mode::Alone);
+    cache.insert(100, 10).unwrap();
+    cache.write(200, 10).unwrap();
+    cache.read(300, 10).unwrap();
+    cache.step(Request::Pin { address: 300 }).unwrap();
+    cache
+}
+
+#[test]
+fn asking_tells_a_yes_to_each_kind() {
+    let alone = busy();
+    let mut lead = Cache::small(4, Mode::Lead);
+    lead.insert(100, 10).unwrap();
+    let mut standby = Cache::small(4, Mode::Standby);
+    standby.insert(100, 10).unwrap();
+    let cases = [
+        (&alone, Request::Insert { address: 400, size: 10 }),
+        (&alone, Request::ProtectForReading { address: 100, size: 10 }),
+        (&alone, Request::ProtectForWriting { address: 400, size: 10 }),
+        (&alone, Request::ReleaseUnchanged { address: 300 }),
+        (&alone, Request::ReleaseChanged { address: 200, size: 20 }),
+        (&alone, Request::Pin { address: 200 }),
+        (&alone, Request::Unpin { address: 300 }),
+        (&alone, Request::Resize { address: 200, size: 20 }),
+        (&alone, Request::Discard { address: 100 }),
+        (&lead, Request::Flush),
+        (&lead, Request::Sync),
+        (&standby, Request::Take { list: &[100] }),
+        (&alone, Request::Configure { settings: small() }),
+    ];
+    for (cache, request) in cases {
+        let lent = cache.orders.len();
+        for lent in [lent, lent + 1, usize::MAX] {
+            assert_eq!(checked_ask(&cache.table, lent, &request), Ok(()), "{request:?}");
+        }
+        let gives_none = checked_ask(&cache.table, 0, &request).is_ok();
+        for lent in [0, lent - 1] {
+            let few = Refusal::FewOrderWords { needed: cache.orders.len(), lent };
+            let told = checked_ask(&cache.table, lent, &request);
+            assert_eq!(told, if gives_none { Ok(()) } else { Err(few) }, "{request:?}");
+        }
+        assert_eq!(
+            gives_none,
+            matches!(
+                request,
+                Request::Pin { .. }
+                    | Request::Unpin { .. }
+                    | Request::Resize { .. }
+                    | Request::Discard { .. }
+                    | Request::Take { .. }
+            )
+        );
+        let short = &cache.table[..cache.table.len() - 1];
+        assert_eq!(checked_ask(short, lent, &request), Err(Refusal::BadTable));
+        let mut damaged = cache.table.clone();
+        damaged[6] += 1;
+        assert_eq!(checked_ask(&damaged, lent, &request), Err(Refusal::BadTable));
+    }
+}
+
+#[test]
+fn asking_tells_each_refusal() {
+    let mut alone = busy();
+    alone.release(300).unwrap();
+    let mut standby = Cache::small(1, Mode::Standby);
+    standby.insert(100, 10).unwrap();
+    let bad = Settings { clean_fraction: 2.0, ..small() };
+    let cases = [
+        (&alone, Request::Insert { address: NO_ADDRESS, size: 0 }, Refusal::BadAddress),
+        (&alone, Request::Insert { address: 1, size: 0 }, Refusal::BadSize { size: 0 }),
+        (&alone, Request::Sync, Refusal::WrongMode { mode: Mode::Alone }),
+        (&standby, Request::Flush, Refusal::WrongMode { mode: Mode::Standby }),
+        (&alone, Request::Resize { address: 1, size: 1 }, Refusal::NotInCache { address: 1 }),
+        (&alone, Request::Insert { address: 100, size: 1 }, Refusal::InCache { address: 100 }),
+        (&alone, Request::Discard { address: 200 }, Refusal::Held { address: 200, hold: Hold::Writer }),
+        (&alone, Request::Flush, Refusal::Held { address: 200, hold: Hold::Writer }),
+        (&alone, Request::ReleaseChanged { address: 100, size: 1 }, Refusal::NotHeld { address: 100 }),
+        (&alone, Request::Discard { address: 300 }, Refusal::Pinned { address: 300 }),
+        (&alone, Request::Unpin { address: 100 }, Refusal::NotPinned { address: 100 }),
+        (&standby, Request::Insert { address: 200, size: 1 }, Refusal::NoRow),
+        (&alone, Request::Configure { settings: bad }, Refusal::BadSetting { field: 4 }),
+        (&standby, Request::Take { list: &[100, 100] }, Refusal::BadList),
+        (&standby, Request::Take { list: &[100, NO_ADDRESS] }, Refusal::BadAddress),
+    ];
+    for (cache, request, refusal) in cases {
+        assert_eq!(checked_ask(&cache.table, cache.orders.len(), &request), Err(refusal), "{request:?}");
+    }
+}
+
+#[test]
+fn asking_answers_an_unknown_kind() {
+    let cache = Cache::small(4, Mode::Alone);
+    let before = cache.table.clone();
+    let told = |table: &[u64], kind| {
+        let request = raw::Request { kind, ..raw::Request::default() };
+        // SAFETY: the slice is borrowed for the call, and there is no list.
+        unsafe { raw::speldervacht_ask(table.as_ptr(), table.len(), 0, std::ptr::null(), 0, request) }
+    };
+    for kind in [0, 14, u64::MAX] {
+        assert_eq!(told(&cache.table, kind), raw::Verdict { number: 5, field: 0 });
+        assert_eq!(told(&cache.table[1..], kind), raw::Verdict { number: 1, field: 0 });
+        assert_eq!(told(&[], kind), raw::Verdict { number: 1, field: 0 });
+    }
+    assert_eq!(cache.table, before);
+}
+
 #[test]
 fn opening_judges_rows_then_threshold_then_settings() {
     let bad = Settings { initial_size: None, ..small() };
@@ -326,7 +451,7 @@ fn bad_settings_are_named() {
         Settings { increase_cap: Some(134_217_728), decrease_cap: Some(134_217_728), ..good },
     ];
     for settings in at_limits {
-        assert_eq!(cache.ask(Request::Configure { settings }), NONE, "{settings:?}");
+        assert_eq!(cache.step(Request::Configure { settings }), NONE, "{settings:?}");
     }
 }
 
@@ -344,7 +469,7 @@ fn the_byte_count_stops() {
     let mut cache = Cache::small(1, Mode::Alone);
     let mut count_after = |size| {
         cache.insert(1, size).unwrap();
-        cache.ask(Request::Discard { address: 1 }).unwrap();
+        cache.step(Request::Discard { address: 1 }).unwrap();
         report(&cache.table).unwrap().count
     };
     let mut counted = 0;
@@ -394,7 +519,7 @@ fn damaged_tables_are_answered() {
             cache.table = good.clone();
             cache.table[at] = word;
             let figures = report(&cache.table);
-            let asked = cache.ask(Request::Discard { address: 100 });
+            let asked = cache.step(Request::Discard { address: 100 });
             assert_eq!(figures.is_err(), asked == Err(1), "word {at} as {word}");
         }
     }
