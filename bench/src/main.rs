@@ -1,5 +1,5 @@
-//! Times the library's requests beside judging alone, the second program's model, and reading the
-//! table once. Prints one table, in Markdown.
+//! Times the library's requests, and asking about them, beside judging alone, the second program's
+//! model, and reading the table once. Prints one table, in Markdown.
 //!
 //!     cargo run --release
 
@@ -12,7 +12,8 @@ use std::cell::RefCell;
 use std::hint::black_box;
 use std::time::{Duration, Instant};
 
-const ROW_COUNTS: [usize; 3] = [64, 1_024, 4_096];
+const MOST_ROWS: usize = 4_096;
+const ROW_COUNTS: [usize; 3] = [64, 1_024, MOST_ROWS];
 /// Bytes of every entry.
 const SIZE: u64 = 512;
 /// For the orders of the rows, of the recency lists and of the lists taken.
@@ -22,6 +23,8 @@ const LIST_SEED: u64 = 3;
 /// Time spent on one figure, and how often it is measured at least and at most.
 const TIME: Duration = Duration::from_millis(400);
 const FEWEST: usize = 3;
+/// What asking may cost with the most rows where its tests go over no rows and no list, times judging.
+const ASKING_BESIDE_JUDGING: f64 = 1.1;
 const MOST: usize = 100_000;
 
 const INSERT: u64 = 1;
@@ -37,20 +40,40 @@ const TAKE: u64 = 12;
 const CONFIGURE: u64 = 13;
 const UNKNOWN: u64 = 14;
 
+/// Does it as often as one figure is measured.
+fn many_times(mut once: impl FnMut()) {
+    let start = Instant::now();
+    let mut measured = 0;
+    while measured < FEWEST || (measured < MOST && start.elapsed() < TIME) {
+        once();
+        measured += 1;
+    }
+}
+
+/// The best of the times so far.
+struct Best(Duration);
+
+impl Best {
+    fn time<R>(&mut self, run: impl FnOnce() -> R) -> R {
+        let begin = Instant::now();
+        let result = black_box(run());
+        self.0 = self.0.min(begin.elapsed());
+        result
+    }
+
+    fn microseconds(&self) -> f64 {
+        self.0.as_secs_f64() * 1e6
+    }
+}
+
 /// The best time of `run`, each after a `prepare` that is not timed, in microseconds.
 fn time<T, R>(mut prepare: impl FnMut() -> T, mut run: impl FnMut(T) -> R) -> f64 {
-    let mut best = Duration::MAX;
-    let mut measured = 0;
-    let start = Instant::now();
-    while measured < FEWEST || (measured < MOST && start.elapsed() < TIME) {
-        let prepared = prepare();
-        let begin = Instant::now();
-        let result = black_box(run(black_box(prepared)));
-        best = best.min(begin.elapsed());
-        measured += 1;
-        drop(result);
-    }
-    best.as_secs_f64() * 1e6
+    let mut best = Best(Duration::MAX);
+    many_times(|| {
+        let prepared = black_box(prepare());
+        drop(best.time(|| run(prepared)));
+    });
+    best.microseconds()
 }
 
 // ---- what is timed
@@ -108,9 +131,27 @@ struct Case {
     shuffled: bool,
     /// How many orders each request gives; none is known where it is refused.
     orders: Vec<Option<u64>>,
+    /// The row for asking about the first request.
+    asking: Option<Asking>,
 }
 
-fn ask(kind: u64, address: u64, size: u64) -> Asked {
+struct Asking {
+    name: &'static str,
+    /// Whether its tests go over all rows or a list.
+    scans: bool,
+}
+
+impl Case {
+    fn and_asking(self, name: &'static str) -> Case {
+        Case { asking: Some(Asking { name, scans: false }), ..self }
+    }
+
+    fn and_asking_scans(self, name: &'static str) -> Case {
+        Case { asking: Some(Asking { name, scans: true }), ..self }
+    }
+}
+
+fn asked(kind: u64, address: u64, size: u64) -> Asked {
     Asked { kind, address, size, settings: [0; 22] }
 }
 
@@ -119,6 +160,7 @@ fn cases(rows: usize) -> Vec<Case> {
     let mid = middle(rows);
     let clean = full_cache(rows, Mode::Alone, false);
     let dirty = full_cache(rows, Mode::Alone, true);
+    let lead = full_cache(rows, Mode::Lead, true);
     let follower = full_cache(rows, Mode::Standby, true);
     let held = with_middle(clean.clone(), Hold::Readers(1), false);
     let pinned = with_middle(clean.clone(), Hold::Free, true);
@@ -127,7 +169,7 @@ fn cases(rows: usize) -> Vec<Case> {
     aging.accesses = aging.settings.epoch_length - 1;
     aging.hits = aging.accesses;
     let aging = with_middle(aging, Hold::Readers(1), false);
-    let configure = Asked { settings: settings_words(&clean.settings, 0), ..ask(CONFIGURE, 0, 0) };
+    let configure = Asked { settings: settings_words(&clean.settings, 0), ..asked(CONFIGURE, 0, 0) };
     let case = |name, cache: &Model, asked: Vec<Asked>, orders: Vec<u64>| Case {
         name,
         cache: cache.clone(),
@@ -135,35 +177,46 @@ fn cases(rows: usize) -> Vec<Case> {
         list: Vec::new(),
         shuffled: false,
         orders: orders.into_iter().map(Some).collect(),
+        asking: None,
     };
     vec![
         Case {
             orders: vec![None],
-            ..case("judging alone (refused: unknown kind)", &clean, vec![ask(UNKNOWN, 0, 0)], vec![])
+            ..case("judging alone (refused: unknown kind)", &clean, vec![asked(UNKNOWN, 0, 0)], vec![])
         },
         case(
             "protect and release, resident",
             &clean,
-            vec![ask(PROTECT_FOR_READING, mid, SIZE), ask(RELEASE_UNCHANGED, mid, 0)],
+            vec![asked(PROTECT_FOR_READING, mid, SIZE), asked(RELEASE_UNCHANGED, mid, 0)],
             vec![0, 0],
-        ),
-        case("pin and unpin", &held, vec![ask(PIN, mid, 0), ask(UNPIN, mid, 0)], vec![0, 0]),
-        case("resize", &pinned, vec![ask(RESIZE, mid, SIZE + 1)], vec![0]),
-        case("discard", &clean, vec![ask(DISCARD, mid, 0)], vec![0]),
-        case("insert, evicts one", &clean, vec![ask(INSERT, mid + 1, SIZE)], vec![1]),
-        case("flush, all rows dirty", &dirty, vec![ask(FLUSH, 0, 0)], vec![n]),
-        case("sync, writes half of the rows", &full_cache(rows, Mode::Lead, true), vec![ask(SYNC, 0, 0)], vec![n / 2]),
+        )
+        .and_asking("ask: protect, resident"),
+        case("pin and unpin", &held, vec![asked(PIN, mid, 0), asked(UNPIN, mid, 0)], vec![0, 0]).and_asking("ask: pin"),
+        case("resize", &pinned, vec![asked(RESIZE, mid, SIZE + 1)], vec![0]).and_asking("ask: resize"),
+        case("discard", &clean, vec![asked(DISCARD, mid, 0)], vec![0]).and_asking("ask: discard"),
+        case("insert, evicts one", &clean, vec![asked(INSERT, mid + 1, SIZE)], vec![1])
+            .and_asking("ask: insert, evicts one"),
+        Case {
+            orders: vec![None],
+            ..case("insert at a lead, all dirty (refused: no row)", &lead, vec![asked(INSERT, mid + 1, SIZE)], vec![])
+        }
+        .and_asking_scans("ask: insert at a lead, all dirty"),
+        case("flush, all rows dirty", &dirty, vec![asked(FLUSH, 0, 0)], vec![n])
+            .and_asking_scans("ask: flush, all rows dirty"),
+        case("sync, writes half of the rows", &lead, vec![asked(SYNC, 0, 0)], vec![n / 2]).and_asking("ask: sync"),
         Case {
             list: rising_addresses(rows),
-            ..case("take, all rows, as a flush lists them", &follower, vec![ask(TAKE, 0, 0)], vec![0])
-        },
+            ..case("take, all rows, as a flush lists them", &follower, vec![asked(TAKE, 0, 0)], vec![0])
+        }
+        .and_asking_scans("ask: take, all rows, as a flush lists them"),
         Case {
             list: rising_addresses(rows),
             shuffled: true,
-            ..case("take, all rows, addresses in no order", &follower, vec![ask(TAKE, 0, 0)], vec![0])
-        },
-        case("configure", &clean, vec![configure], vec![0]),
-        case("epoch's end, all but one age out", &aging, vec![ask(PROTECT_FOR_READING, mid, SIZE)], vec![n - 1]),
+            ..case("take, all rows, addresses in no order", &follower, vec![asked(TAKE, 0, 0)], vec![0])
+        }
+        .and_asking_scans("ask: take, all rows, addresses in no order"),
+        case("configure", &clean, vec![configure], vec![0]).and_asking("ask: configure"),
+        case("epoch's end, all but one age out", &aging, vec![asked(PROTECT_FOR_READING, mid, SIZE)], vec![n - 1]),
         case(
             "worst: protect, writes and evicts all, loads",
             &{
@@ -171,9 +224,10 @@ fn cases(rows: usize) -> Vec<Case> {
                 worst.settings.flash = model::Flash::Off;
                 worst
             },
-            vec![ask(PROTECT_FOR_READING, 1, 134_217_728)],
+            vec![asked(PROTECT_FOR_READING, 1, 134_217_728)],
             vec![2 * n + 1],
-        ),
+        )
+        .and_asking("ask: worst: protect"),
     ]
 }
 
@@ -188,6 +242,75 @@ fn allowed(case: &Case, judging: f64) -> f64 {
 struct Figures {
     library: f64,
     model: f64,
+}
+
+/// The lists of a case, one for each time, as they come.
+struct Lists {
+    list: RefCell<Vec<u64>>,
+    random: Option<RefCell<Random>>,
+}
+
+impl Lists {
+    fn of(case: &Case) -> Lists {
+        let random = case.shuffled.then(|| RefCell::new(Random::new(LIST_SEED)));
+        Lists { list: RefCell::new(case.list.clone()), random }
+    }
+
+    fn next(&self) {
+        if let Some(random) = &self.random {
+            random.borrow_mut().shuffle(&mut self.list.borrow_mut());
+        }
+    }
+}
+
+/// What asking about the first request of a case costs; judging and the request are timed in turn with
+/// it, so that all three meet the machine in the same state.
+struct AskingFigures {
+    judging: f64,
+    asking: f64,
+    request: f64,
+    model: f64,
+}
+
+impl AskingFigures {
+    fn beside_judging(&self) -> f64 {
+        self.asking / self.judging
+    }
+
+    fn beside_request(&self) -> f64 {
+        self.asking / self.request
+    }
+}
+
+fn time_asking(case: &Case) -> AskingFigures {
+    let words = picture(&case.cache);
+    let lent = order_words(case.cache.rows);
+    let request = &case.asked[0];
+    let mut table = words.clone();
+    let mut orders = vec![0; lent];
+    let told = library::ask(&words, lent, &case.list, request);
+    assert_eq!(told.number == 0, case.orders[0].is_some(), "asking about {}", case.name);
+    let unknown = asked(UNKNOWN, 0, 0);
+    let lists = Lists::of(case);
+    let [mut judging, mut asking, mut doing] = [(); 3].map(|()| Best(Duration::MAX));
+    many_times(|| {
+        table.copy_from_slice(&words);
+        judging.time(|| library::step(&mut table, &mut orders, &[], black_box(&unknown)));
+        table.copy_from_slice(&words);
+        lists.next();
+        asking.time(|| library::ask(&table, lent, &lists.list.borrow(), black_box(request)));
+        table.copy_from_slice(&words);
+        lists.next();
+        doing.time(|| library::step(&mut table, &mut orders, &lists.list.borrow(), black_box(request)));
+    });
+    let known = request_of(request);
+    let model = time(|| lists.next(), |()| case.cache.refusal(&known, &lists.list.borrow(), lent).is_some());
+    AskingFigures {
+        judging: judging.microseconds(),
+        asking: asking.microseconds(),
+        request: doing.microseconds(),
+        model,
+    }
 }
 
 /// The time of a case's requests together.
@@ -206,35 +329,29 @@ fn time_case(case: &Case) -> Figures {
         let told = (answer.number == 0).then_some(answer.orders);
         assert_eq!((told, given), (*expected, *expected), "{} at {rows} rows", case.name);
     }
-    // Preparing and running need these in turn.
+    // Preparing and running need the table in turn.
     let table = RefCell::new(table);
-    let list = RefCell::new(case.list.clone());
-    let mut random = Random::new(LIST_SEED);
-    let mut next_list = || {
-        if case.shuffled {
-            random.shuffle(&mut list.borrow_mut());
-        }
-    };
+    let lists = Lists::of(case);
     let library = time(
         || {
-            next_list();
+            lists.next();
             table.borrow_mut().copy_from_slice(&words)
         },
         |()| {
             let table = &mut *table.borrow_mut();
             for asked in &case.asked {
-                black_box(library::step(table, &mut orders, &list.borrow(), asked));
+                black_box(library::step(table, &mut orders, &lists.list.borrow(), asked));
             }
         },
     );
     let model = time(
         || {
-            next_list();
+            lists.next();
             case.cache.clone()
         },
         |mut model| {
             for request in &requests {
-                black_box(model.step(request, &list.borrow(), lent).is_ok());
+                black_box(model.step(request, &lists.list.borrow(), lent).is_ok());
             }
             model
         },
@@ -260,12 +377,10 @@ fn line(name: &str, cells: &[[String; 3]]) {
 
 fn main() {
     let mut lines: Vec<(&str, Vec<[String; 3]>)> = Vec::new();
-    let mut above: Vec<String> = Vec::new();
-    let mut put = |at: usize, name: &'static str, cell: [String; 3]| {
-        if at == lines.len() {
-            lines.push((name, Vec::new()));
-        }
-        lines[at].1.push(cell);
+    let [mut above, mut above_judging, mut above_request] = [(); 3].map(|()| Vec::<String>::new());
+    let mut put = |name: &'static str, cell: [String; 3]| match lines.iter_mut().find(|line| line.0 == name) {
+        Some((_, cells)) => cells.push(cell),
+        None => lines.push((name, vec![cell])),
     };
     for rows in ROW_COUNTS {
         let clean = full_cache(rows, Mode::Alone, false);
@@ -278,18 +393,30 @@ fn main() {
                 judging = figures.library;
                 figures.model = time(|| (), |()| judge(&words).is_some());
                 let beside = format!("{:.2}", reading / judging);
-                put(0, "reading the table once", [short(reading), beside, "".to_string()]);
+                put("reading the table once", [short(reading), beside, "".to_string()]);
             }
             if figures.library > allowed(case, judging) {
                 above.push(format!("{} at {rows} rows", case.name));
             }
             let beside = format!("{:.1}", figures.library / judging);
-            put(at + 1, case.name, [short(figures.library), beside, short(figures.model)]);
+            put(case.name, [short(figures.library), beside, short(figures.model)]);
         }
         let report = time(|| (), |()| library::report(&words));
         let model = time(|| (), |()| clean.report());
         let beside = format!("{:.1}", report / judging);
-        put(cases(rows).len() + 1, "report", [short(report), beside, short(model)]);
+        put("report", [short(report), beside, short(model)]);
+        for case in cases(rows) {
+            let Some(Asking { name, scans }) = case.asking else { continue };
+            let figures = time_asking(&case);
+            let beside = format!("{:.2}", figures.beside_judging());
+            if rows == MOST_ROWS && !scans && figures.beside_judging() > ASKING_BESIDE_JUDGING {
+                above_judging.push(format!("{name} ({beside} times)"));
+            }
+            if figures.beside_request() > 1.0 {
+                above_request.push(format!("{name} at {rows} rows ({:.3} times)", figures.beside_request()));
+            }
+            put(name, [short(figures.asking), beside, short(figures.model)]);
+        }
     }
 
     println!("Microseconds, best of many; \"beside\" is the library's time over that of judging alone.\n");
@@ -299,8 +426,15 @@ fn main() {
     for (name, cells) in &lines {
         line(name, cells);
     }
-    let above = if above.is_empty() { "none".to_string() } else { above.join("; ") };
-    println!("\nAbove twice judging and 1.5 microseconds for each order: {above}.");
+    let bounds = [
+        ("Above twice judging and 1.5 microseconds for each order", above),
+        ("Asking, above 1.1 times judging at 4,096 rows where its tests go over no rows and no list", above_judging),
+        ("Asking, above the request itself", above_request),
+    ];
+    for (bound, above) in bounds {
+        let above = if above.is_empty() { "none".to_string() } else { above.join("; ") };
+        println!("\n{bound}: {above}.");
+    }
     println!();
     for rows in ROW_COUNTS {
         let (table, orders) = (table_words(rows), order_words(rows));
