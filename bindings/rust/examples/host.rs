@@ -3,27 +3,33 @@
 //!
 //!     cargo run --release --example host [SEED [STEPS [FOLDER]]]
 //!
-//! The hosts play at random: records are created, changed, read, pinned and discarded, lists are sent
-//! and taken, the world moves from one host to the other, and now and then the lead is lost. After
-//! every step each record of the world is looked for: it is in the file as it should be, or it is
-//! dirty in the memory of both hosts.
+//! The hosts play at random: records are created, changed, read for a while, pinned and discarded,
+//! lists are sent and taken, the world moves from one host to the other, and now and then the lead is
+//! lost. A change is asked of both hosts, and done at both once both say yes; where one would refuse it,
+//! what helps is done and both are asked again. After every step each record of the world is looked
+//! for: it is in the file as it should be, or it is dirty in the memory of both hosts.
 
 use speldervacht::{
-    open, order_words, report, step, table_words, Decrease, Flash, Increase, Mode, OrderKind, Refusal, Request,
+    ask, open, order_words, report, step, table_words, Decrease, Flash, Increase, Mode, OrderKind, Refusal, Request,
     Settings,
 };
-use std::collections::{BTreeMap, BTreeSet};
+use std::collections::{BTreeMap, BTreeSet, VecDeque};
 use std::error::Error;
 use std::fs::{File, OpenOptions};
 use std::os::unix::fs::FileExt;
 use std::path::PathBuf;
 
-const ROWS: usize = 32;
+const LEAD: usize = 0;
+const STANDBY: usize = 1;
+
+const ROWS: usize = 24;
 const THRESHOLD: u64 = 4_096;
 /// Places in the world's file, and the bytes of each.
 const SLOTS: u64 = 96;
 const SLOT_BYTES: u64 = 1_024;
+/// Pins and readers of one host.
 const MOST_PINS: usize = 4;
+const MOST_READERS: usize = 4;
 
 fn settings() -> Settings {
     Settings {
@@ -68,6 +74,9 @@ struct Host {
     memory: BTreeMap<u64, Vec<u8>>,
     dirty: BTreeSet<u64>,
     pinned: BTreeSet<u64>,
+    /// The address that each reader holds, the longest reader first, and the one held for writing.
+    readers: VecDeque<u64>,
+    written: Option<u64>,
     writes: u64,
     loads: u64,
     evictions: u64,
@@ -82,6 +91,8 @@ impl Host {
             memory: BTreeMap::new(),
             dirty: BTreeSet::new(),
             pinned: BTreeSet::new(),
+            readers: VecDeque::new(),
+            written: None,
             writes: 0,
             loads: 0,
             evictions: 0,
@@ -95,11 +106,18 @@ impl Host {
         self.memory.clear();
         self.dirty.clear();
         self.pinned.clear();
+        self.readers.clear();
+        self.written = None;
         open(&mut self.table, ROWS, mode, THRESHOLD, &settings())
     }
 
+    /// What a request would be answered.
+    fn told(&self, request: &Request) -> Result<(), Refusal> {
+        ask(&self.table, self.orders.len(), request)
+    }
+
     /// Does a request and carries out its orders. The addresses written are the answer.
-    fn ask(&mut self, world: &World, request: &Request) -> Result<Vec<u64>, Box<dyn Error>> {
+    fn step(&mut self, world: &World, request: &Request) -> Result<Vec<u64>, Box<dyn Error>> {
         let mut written = Vec::new();
         for order in step(&mut self.table, &mut self.orders, request)? {
             match order.kind {
@@ -124,16 +142,46 @@ impl Host {
         Ok(written)
     }
 
-    /// Whether a row can be given whatever comes next: one entry more that can't be evicted fits.
-    fn has_room(&self) -> bool {
-        self.dirty.union(&self.pinned).count() + 2 <= ROWS
+    /// A reader of the address goes.
+    fn release(&mut self, world: &World, address: u64) -> Result<(), Box<dyn Error>> {
+        self.step(world, &Request::ReleaseUnchanged { address })?;
+        let place = self.readers.iter().position(|reader| *reader == address).ok_or("nobody reads it")?;
+        self.readers.remove(place);
+        Ok(())
+    }
+
+    fn unpin(&mut self, world: &World, address: u64) -> Result<(), Box<dyn Error>> {
+        self.step(world, &Request::Unpin { address })?;
+        self.pinned.remove(&address);
+        Ok(())
+    }
+
+    /// Holds the record for writing.
+    fn write(&mut self, world: &World, address: u64, size: u64) -> Result<(), Box<dyn Error>> {
+        self.step(world, &Request::ProtectForWriting { address, size })?;
+        self.written = Some(address);
+        Ok(())
     }
 }
 
 // ---- the play
 
+/// What was done so that a host accepts what it would refuse.
+enum Help {
+    List,
+    WriteHold,
+    ReaderGone,
+    PinGone,
+}
+
 #[derive(Default)]
 struct Story {
+    /// Changes asked of both, how often who would have refused, and how often each help came.
+    asked: u64,
+    lead_alone: u64,
+    standby_alone: u64,
+    both: u64,
+    helped: [u64; 4],
     created: u64,
     changed: u64,
     read: u64,
@@ -153,8 +201,8 @@ struct Play {
     world: World,
     /// What every record should be.
     truth: BTreeMap<u64, Vec<u8>>,
-    lead: Host,
-    standby: Host,
+    /// The lead and the standby.
+    hosts: [Host; 2],
     random: u64,
     story: Story,
 }
@@ -180,23 +228,106 @@ impl Play {
         (many > 0).then(|| self.below(many)).and_then(|n| self.truth.keys().nth(n as usize).copied())
     }
 
-    /// A change that both hosts get.
+    /// A change that both hosts get: it is asked of both, and done once both say yes.
     fn both(&mut self, request: Request) -> Result<(), Box<dyn Error>> {
-        self.lead.ask(&self.world, &request)?;
-        self.standby.ask(&self.world, &request)?;
+        self.story.asked += 1;
+        loop {
+            let told = [LEAD, STANDBY].map(|host| self.hosts[host].told(&request));
+            let (host, refusal) = match told {
+                [Ok(()), Ok(())] => break,
+                [Err(refusal), Ok(())] => {
+                    self.story.lead_alone += 1;
+                    (LEAD, refusal)
+                }
+                [Ok(()), Err(refusal)] => {
+                    self.story.standby_alone += 1;
+                    (STANDBY, refusal)
+                }
+                [Err(refusal), Err(_)] => {
+                    self.story.both += 1;
+                    (LEAD, refusal)
+                }
+            };
+            let help = self.help(host, refusal)?;
+            self.story.helped[help as usize] += 1;
+        }
+        for host in &mut self.hosts {
+            host.step(&self.world, &request)?;
+        }
         Ok(())
     }
 
-    /// A flush or a sync of the lead, whose list the standby takes.
-    fn send_list(&mut self, request: Request) -> Result<(), Box<dyn Error>> {
-        let list = self.lead.ask(&self.world, &request)?;
-        self.standby.ask(&self.world, &Request::Take { list: &list })?;
+    /// Asks a host about a request of its own until it says yes.
+    fn ready(&mut self, host: usize, request: &Request) -> Result<(), Box<dyn Error>> {
+        while let Err(refusal) = self.hosts[host].told(request) {
+            self.help(host, refusal)?;
+        }
+        Ok(())
+    }
+
+    /// Does what helps a host that would refuse.
+    fn help(&mut self, host: usize, refusal: Refusal) -> Result<Help, Box<dyn Error>> {
+        match refusal {
+            Refusal::NoRow => self.make_room(host),
+            Refusal::NotInCache { address } | Refusal::NotHeld { address } => {
+                let size = self.truth[&address].len() as u64;
+                self.ready(host, &Request::ProtectForWriting { address, size })?;
+                self.hosts[host].write(&self.world, address, size)?;
+                Ok(Help::WriteHold)
+            }
+            Refusal::Held { address, .. } => {
+                self.hosts[host].release(&self.world, address)?;
+                Ok(Help::ReaderGone)
+            }
+            Refusal::Pinned { address } => {
+                self.hosts[host].unpin(&self.world, address)?;
+                Ok(Help::PinGone)
+            }
+            other => Err(other.into()),
+        }
+    }
+
+    /// Something may be evicted that could not: what was dirty is written, or else a reader or a pin of
+    /// the host goes, or of the lead, whose readers forbid a flush.
+    fn make_room(&mut self, host: usize) -> Result<Help, Box<dyn Error>> {
+        let lead = &self.hosts[LEAD];
+        let idle = lead.readers.is_empty() && lead.written.is_none();
+        if !lead.dirty.is_empty() && self.send_list(if idle { Request::Flush } else { Request::Sync })? > 0 {
+            return Ok(Help::List);
+        }
+        for at in [host, LEAD] {
+            let host = &mut self.hosts[at];
+            if let Some(address) = host.readers.front().copied() {
+                host.release(&self.world, address)?;
+                return Ok(Help::ReaderGone);
+            }
+            if let Some(address) = host.pinned.first().copied() {
+                host.unpin(&self.world, address)?;
+                return Ok(Help::PinGone);
+            }
+        }
+        Err(Refusal::NoRow.into())
+    }
+
+    /// A flush or a sync of the lead, whose list the standby takes: how many records it names.
+    fn send_list(&mut self, request: Request) -> Result<usize, Box<dyn Error>> {
+        let list = self.hosts[LEAD].step(&self.world, &request)?;
+        let standby = &mut self.hosts[STANDBY];
+        standby.step(&self.world, &Request::Take { list: &list })?;
         for address in &list {
-            self.standby.dirty.remove(address);
+            standby.dirty.remove(address);
         }
         self.story.lists += 1;
         self.story.longest_list = self.story.longest_list.max(list.len());
-        Ok(())
+        Ok(list.len())
+    }
+
+    /// A flush, for which the lead's readers have to go.
+    fn flush(&mut self) -> Result<(), Box<dyn Error>> {
+        while let Some(address) = self.hosts[LEAD].readers.front().copied() {
+            self.hosts[LEAD].release(&self.world, address)?;
+        }
+        self.send_list(Request::Flush).map(|_| ())
     }
 
     fn create(&mut self) -> Result<(), Box<dyn Error>> {
@@ -212,7 +343,7 @@ impl Play {
 
     fn insert(&mut self, address: u64, record: Vec<u8>) -> Result<(), Box<dyn Error>> {
         self.both(Request::Insert { address, size: record.len() as u64 })?;
-        for host in [&mut self.lead, &mut self.standby] {
+        for host in &mut self.hosts {
             host.memory.insert(address, record.clone());
             host.dirty.insert(address);
         }
@@ -220,43 +351,56 @@ impl Play {
         Ok(())
     }
 
+    /// The lead changes a record that it holds for writing. The standby holds it once it was asked.
     fn change(&mut self) -> Result<(), Box<dyn Error>> {
         let Some(address) = self.some_record() else { return Ok(()) };
         let size = self.truth[&address].len() as u64;
-        self.both(Request::ProtectForWriting { address, size })?;
+        self.ready(LEAD, &Request::ProtectForWriting { address, size })?;
+        self.hosts[LEAD].write(&self.world, address, size)?;
         let record = self.contents();
-        for host in [&mut self.lead, &mut self.standby] {
+        self.both(Request::ReleaseChanged { address, size: record.len() as u64 })?;
+        for host in &mut self.hosts {
             assert_eq!(host.memory[&address], self.truth[&address], "{} has record {address}", host.name);
             host.memory.insert(address, record.clone());
             host.dirty.insert(address);
+            host.written = None;
         }
-        self.both(Request::ReleaseChanged { address, size: record.len() as u64 })?;
         self.truth.insert(address, record);
         self.story.changed += 1;
         Ok(())
     }
 
+    /// One host reads a record, now and then for a while.
     fn read(&mut self, pin: bool) -> Result<(), Box<dyn Error>> {
         let Some(address) = self.some_record() else { return Ok(()) };
         let size = self.truth[&address].len() as u64;
-        let at_lead = self.below(2) == 0;
-        let host = if at_lead { &mut self.lead } else { &mut self.standby };
-        host.ask(&self.world, &Request::ProtectForReading { address, size })?;
+        let (at, long) = (self.below(2) as usize, self.below(10) == 0);
+        let read = Request::ProtectForReading { address, size };
+        self.ready(at, &read)?;
+        let host = &mut self.hosts[at];
+        host.step(&self.world, &read)?;
+        host.readers.push_back(address);
         assert_eq!(host.memory[&address], self.truth[&address], "{} has record {address}", host.name);
         if pin && !host.pinned.contains(&address) && host.pinned.len() < MOST_PINS {
-            host.ask(&self.world, &Request::Pin { address })?;
+            host.step(&self.world, &Request::Pin { address })?;
             host.pinned.insert(address);
             self.story.pinned += 1;
         }
-        host.ask(&self.world, &Request::ReleaseUnchanged { address })?;
+        if !long || host.readers.len() > MOST_READERS {
+            host.release(&self.world, address)?;
+        }
         self.story.read += 1;
         Ok(())
     }
 
-    fn unpin(&mut self) -> Result<(), Box<dyn Error>> {
-        for host in [&mut self.lead, &mut self.standby] {
-            if let Some(address) = host.pinned.pop_first() {
-                host.ask(&self.world, &Request::Unpin { address })?;
+    /// The longest reader and the first pin of each host go.
+    fn let_go(&mut self) -> Result<(), Box<dyn Error>> {
+        for host in &mut self.hosts {
+            if let Some(address) = host.readers.front().copied() {
+                host.release(&self.world, address)?;
+            }
+            if let Some(address) = host.pinned.first().copied() {
+                host.unpin(&self.world, address)?;
             }
         }
         Ok(())
@@ -264,11 +408,8 @@ impl Play {
 
     fn discard(&mut self) -> Result<(), Box<dyn Error>> {
         let Some(address) = self.some_record() else { return Ok(()) };
-        if self.lead.pinned.contains(&address) || self.standby.pinned.contains(&address) {
-            return Ok(());
-        }
         self.both(Request::Discard { address })?;
-        for host in [&mut self.lead, &mut self.standby] {
+        for host in &mut self.hosts {
             host.memory.remove(&address);
             host.dirty.remove(&address);
         }
@@ -279,23 +420,25 @@ impl Play {
 
     /// The world moves: all is written, and the hosts change parts with fresh caches.
     fn move_world(&mut self) -> Result<(), Box<dyn Error>> {
-        self.send_list(Request::Flush)?;
-        assert!(self.lead.dirty.is_empty() && self.standby.dirty.is_empty());
-        std::mem::swap(&mut self.lead, &mut self.standby);
-        self.lead.open(Mode::Lead)?;
-        self.standby.open(Mode::Standby)?;
+        self.flush()?;
+        assert!(self.hosts.iter().all(|host| host.dirty.is_empty()));
+        self.change_parts()?;
         self.story.moves += 1;
         Ok(())
     }
 
+    fn change_parts(&mut self) -> Result<(), Refusal> {
+        self.hosts.swap(LEAD, STANDBY);
+        self.hosts[LEAD].open(Mode::Lead)?;
+        self.hosts[STANDBY].open(Mode::Standby)
+    }
+
     /// The lead is lost with its memory. The standby leads, and brings in what it knows as dirty.
     fn lose_lead(&mut self) -> Result<(), Box<dyn Error>> {
-        std::mem::swap(&mut self.lead, &mut self.standby);
-        let survivor = &mut self.lead;
+        let survivor = &self.hosts[STANDBY];
         let rescued: Vec<(u64, Vec<u8>)> =
             survivor.dirty.iter().map(|address| (*address, survivor.memory[address].clone())).collect();
-        self.lead.open(Mode::Lead)?;
-        self.standby.open(Mode::Standby)?;
+        self.change_parts()?;
         self.story.leads_lost += 1;
         self.story.rescued += rescued.len() as u64;
         for (address, record) in rescued {
@@ -305,21 +448,18 @@ impl Play {
     }
 
     fn act(&mut self) -> Result<(), Box<dyn Error>> {
-        if !self.lead.has_room() || !self.standby.has_room() {
-            self.send_list(Request::Flush)?;
-        }
         match self.below(1_000) {
             0..=99 => self.create(),
             100..=349 => self.change(),
             350..=849 => self.read(false),
             850..=879 => self.read(true),
-            880..=919 => self.unpin(),
+            880..=919 => self.let_go(),
             920..=969 => self.discard(),
-            970..=979 => self.send_list(Request::Flush),
-            980..=989 => self.send_list(Request::Sync),
-            990 => self.move_world(),
-            991 => self.lose_lead(),
-            _ if report(&self.lead.table)?.due => self.send_list(Request::Sync),
+            970..=974 => self.flush(),
+            975..=979 => self.send_list(Request::Sync).map(|_| ()),
+            980 => self.move_world(),
+            981 => self.lose_lead(),
+            _ if report(&self.hosts[LEAD].table)?.due => self.send_list(Request::Sync).map(|_| ()),
             _ => Ok(()),
         }
     }
@@ -327,18 +467,19 @@ impl Play {
     /// No record is lost, and the caches say what the hosts know.
     fn check(&mut self) -> Result<(), Box<dyn Error>> {
         let file = self.world.read(0, SLOTS * SLOT_BYTES)?;
+        let [lead, standby] = &self.hosts;
         for (address, record) in &self.truth {
-            if self.lead.dirty.contains(address) {
-                assert!(self.standby.dirty.contains(address), "record {address} is dirty at the lead alone");
-                assert_eq!(&self.lead.memory[address], record, "record {address} in the lead's memory");
-                assert_eq!(&self.standby.memory[address], record, "record {address} in the standby's memory");
+            if lead.dirty.contains(address) {
+                assert!(standby.dirty.contains(address), "record {address} is dirty at the lead alone");
+                assert_eq!(&lead.memory[address], record, "record {address} in the lead's memory");
+                assert_eq!(&standby.memory[address], record, "record {address} in the standby's memory");
             } else {
                 let at = (address * SLOT_BYTES) as usize;
                 assert_eq!(&file[at..at + record.len()], record, "record {address} in the file");
             }
         }
-        let figures = [report(&self.lead.table)?, report(&self.standby.table)?];
-        for (host, figures) in [&self.lead, &self.standby].into_iter().zip(figures) {
+        let figures = [report(&lead.table)?, report(&standby.table)?];
+        for (host, figures) in self.hosts.iter().zip(figures) {
             let held: usize = host.memory.values().map(|record| record.len()).sum();
             let dirty: usize = host.dirty.iter().map(|address| host.memory[address].len()).sum();
             let known = (held as u64, dirty as u64, host.memory.len() as u64);
@@ -369,8 +510,7 @@ fn main() -> Result<(), Box<dyn Error>> {
     let mut play = Play {
         world: World { file },
         truth: BTreeMap::new(),
-        lead: Host::new("host 1", Mode::Lead)?,
-        standby: Host::new("host 2", Mode::Standby)?,
+        hosts: [Host::new("host 1", Mode::Lead)?, Host::new("host 2", Mode::Standby)?],
         random: seed.wrapping_mul(0x9e37_79b9_7f4a_7c15).max(1),
         story: Story { least_maximum: u64::MAX, ..Story::default() },
     };
@@ -380,14 +520,21 @@ fn main() -> Result<(), Box<dyn Error>> {
         play.check()?;
     }
     let story = &play.story;
+    let [lists, write_holds, readers, pins] = story.helped;
     println!("{} created, {} changed, {} discarded", story.created, story.changed, story.discarded);
     println!("{} read, {} pinned for a while", story.read, story.pinned);
+    println!("{} changes asked of both and done at both, none refused", story.asked);
+    println!(
+        "before, the lead alone would have refused {} times, the standby alone {} times, both {} times",
+        story.lead_alone, story.standby_alone, story.both
+    );
+    println!("what helped: {lists} lists, {write_holds} holds for writing, {readers} readers gone, {pins} pins gone");
     println!("{} lists, the longest with {} records", story.lists, story.longest_list);
     println!(
         "{} moves; {} leads lost, {} dirty records brought in by the standby",
         story.moves, story.leads_lost, story.rescued
     );
-    for host in [&play.lead, &play.standby] {
+    for host in &play.hosts {
         println!("{}: {} writes, {} loads, {} evictions", host.name, host.writes, host.loads, host.evictions);
     }
     println!("maximum from {} to {} bytes, dirty up to {}", story.least_maximum, story.most_maximum, story.most_dirty);
