@@ -19,7 +19,7 @@ use Rattle.rules.specs.Answers.{verdictOf, verdictIn}
 use Rattle.rules.specs.declared.answer.Verdict.the-variants as verdict
 use Rattle.layout.specs.Picture.{cacheIn}
 use Rattle.judge.specs.Verdict.{judgeWords}
-use Rattle.cache.specs.Asked.{askWords, Owed, pendingOf, LeadFree, StandbyFree, AskedRun}
+use Rattle.cache.specs.Asked.{askWords, Outstanding, pendingOf, LeadFree, StandbyFree, AskedRun}
 use Rattle.cache.specs.Hosts.{accepts, TableRun, TablesAgree}
 use Rattle.cache.specs.Tables.{stepWords}
 use Rattle.cache.proofs.Hosts.{tables-agree, takes-list}
@@ -55,29 +55,29 @@ asked-accepts ws os list r e = accepted-of (stepWords ws os list r .answer) (sym
 -- ---- runs
 
 -- the yes of the one that does the change next still stands
-abbrev Stands : List ℕ → List ℕ → Owed → Type 0
-Stands a b Owed.nothing = Unit
-Stands a b (Owed.standbyNext {r} h n list) = askWords b n list r ≡ verdict.Accepted
-Stands a b (Owed.leadNext {r} h n list) = askWords a n list r ≡ verdict.Accepted
-Stands a b (Owed.taking list) = Unit
+abbrev Stands : List ℕ → List ℕ → Outstanding → Type 0
+Stands a b Outstanding.nothing = Unit
+Stands a b (Outstanding.standbyNext {r} h n list) = askWords b n list r ≡ verdict.Accepted
+Stands a b (Outstanding.leadNext {r} h n list) = askWords a n list r ≡ verdict.Accepted
+Stands a b (Outstanding.taking list) = Unit
 
-lead-moved : (a x b : List ℕ) (p : Owed) → LeadFree p → Stands a b p → Stands x b p
-lead-moved a x b Owed.nothing f s = tt
-lead-moved a x b (Owed.standbyNext h n list) f s = s
-lead-moved a x b (Owed.leadNext h n list) f s = absurd f
-lead-moved a x b (Owed.taking list) f s = tt
+lead-moved : (a x b : List ℕ) (p : Outstanding) → LeadFree p → Stands a b p → Stands x b p
+lead-moved a x b Outstanding.nothing f s = tt
+lead-moved a x b (Outstanding.standbyNext h n list) f s = s
+lead-moved a x b (Outstanding.leadNext h n list) f s = absurd f
+lead-moved a x b (Outstanding.taking list) f s = tt
 
-standby-moved : (a x b : List ℕ) (p : Owed) → StandbyFree p → Stands a b p → Stands a x p
-standby-moved a x b Owed.nothing f s = tt
-standby-moved a x b (Owed.standbyNext h n list) f s = absurd f
-standby-moved a x b (Owed.leadNext h n list) f s = s
-standby-moved a x b (Owed.taking list) f s = tt
+standby-moved : (a x b : List ℕ) (p : Outstanding) → StandbyFree p → Stands a b p → Stands a x p
+standby-moved a x b Outstanding.nothing f s = tt
+standby-moved a x b (Outstanding.standbyNext h n list) f s = absurd f
+standby-moved a x b (Outstanding.leadNext h n list) f s = s
+standby-moved a x b (Outstanding.taking list) f s = tt
 
-record Keeps (t : ℕ) (a b : List ℕ) (l : Ledger) (p : Owed) : Type 0 where
+record Keeps (t : ℕ) (a b : List ℕ) (l : Ledger) (p : Outstanding) : Type 0 where
   run : TableRun t a b l (pendingOf p)
   stands : Stands a b p
 
-keeps : {t : ℕ} {a b : List ℕ} {l : Ledger} {p : Owed} → AskedRun t a b l p → Keeps t a b l p
+keeps : {t : ℕ} {a b : List ℕ} {l : Ledger} {p : Outstanding} → AskedRun t a b l p → Keeps t a b l p
 keeps (AskedRun.opened a b n m s u i j h k) = record { run = TableRun.opened a b n m s u i j h k; stands = tt }
 keeps {p = p} (AskedRun.lead-local {a} {b} os list r h f w run) =
     let k = keeps run in
@@ -106,9 +106,9 @@ keeps (AskedRun.standby-takes os list run) =
     let k = keeps run in
     record { run = TableRun.standby-takes os list (takes-list (k .run) os) (k .run); stands = tt }
 
-pub asked-run : {t : ℕ} {a b : List ℕ} {l : Ledger} {p : Owed} → AskedRun t a b l p → TableRun t a b l (pendingOf p)
+pub asked-run : {t : ℕ} {a b : List ℕ} {l : Ledger} {p : Outstanding} → AskedRun t a b l p → TableRun t a b l (pendingOf p)
 asked-run run = keeps run .run
 
 -- demand 3 of such runs
-pub asked-agree : {t : ℕ} {a b : List ℕ} {l : Ledger} → AskedRun t a b l Owed.nothing → TablesAgree a b l
+pub asked-agree : {t : ℕ} {a b : List ℕ} {l : Ledger} → AskedRun t a b l Outstanding.nothing → TablesAgree a b l
 asked-agree run = tables-agree (asked-run run)

@@ -21,14 +21,14 @@ use Rattle.rules.specs.declared.request.Mode.the-variants.{Lead, Standby}
 use Rattle.rules.specs.declared.request.Request.{Request}
 use Rattle.rules.specs.declared.request.Request.the-variants.{Protect, Release, Flush, Take}
 use Rattle.layout.specs.Layout.{layoutWords}
-use Rattle.cache.specs.Asked.{askWords, Owed, nothing, standbyNext, leadNext, taking, LeadFree, StandbyFree, AskedRun}
+use Rattle.cache.specs.Asked.{askWords, Outstanding, nothing, standbyNext, leadNext, taking, LeadFree, StandbyFree, AskedRun}
 use Rattle.cache.specs.Hosts.{FloatsOf}
 use Rattle.cache.proofs.Hosts.{list-sent, shared-floats, sends-floats}
 use Rattle.cache.proofs.Pictured.{Pictures, pictures-fresh}
 use Rattle.cache.proofs.Runs.{blank as zeros, same-step, tells, pictures, pictures-not, opens, small-fits}
 
 -- tables that picture a lead and a standby, after a run by asking
-pub record Played (t : ℕ) (c d : Cache) (l : Ledger) (p : Owed) : Type 0 where
+pub record Played (t : ℕ) (c d : Cache) (l : Ledger) (p : Outstanding) : Type 0 where
   pub lead : List ℕ
   pub standby : List ℕ
   pub lead-pictures : Pictures lead c
@@ -43,11 +43,11 @@ says-yes k r lent e = rw (length-replicate {A = ℕ} lent 0, k .passes, k .cache
 
 -- ---- the turns
 
-module _ {t : ℕ} {c d : Cache} {l : Ledger} {p : Owed} (k : Played t c d l p) where
-  lead-on : {ws : List ℕ} {e : Cache} {m : Ledger} {q : Owed} → Pictures ws e → AskedRun t ws (k .standby) m q → Played t e d m q
+module _ {t : ℕ} {c d : Cache} {l : Ledger} {p : Outstanding} (k : Played t c d l p) where
+  lead-on : {ws : List ℕ} {e : Cache} {m : Ledger} {q : Outstanding} → Pictures ws e → AskedRun t ws (k .standby) m q → Played t e d m q
   lead-on x r = record { lead = _; standby = _; lead-pictures = x; standby-pictures = k .standby-pictures; run = r }
 
-  standby-on : {ws : List ℕ} {e : Cache} {m : Ledger} {q : Owed} → Pictures ws e → AskedRun t (k .lead) ws m q → Played t c e m q
+  standby-on : {ws : List ℕ} {e : Cache} {m : Ledger} {q : Outstanding} → Pictures ws e → AskedRun t (k .lead) ws m q → Played t c e m q
   standby-on x r = record { lead = _; standby = _; lead-pictures = k .lead-pictures; standby-pictures = x; run = r }
 
   module _ (call : Call) where

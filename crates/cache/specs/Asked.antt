@@ -32,26 +32,26 @@ askWords table lent list r =
 
 -- What a host has still to do: nothing; a shared change that both said yes to, on the one table that has not had it, with
 -- the words and the list it was asked with; a list for the standby.
-pub data Owed : Type 0 where
-  nothing : Owed
-  standbyNext leadNext : {r : Request} → Shared r → ℕ → List ℕ → Owed
-  taking : List ℕ → Owed
+pub data Outstanding : Type 0 where
+  nothing : Outstanding
+  standbyNext leadNext : {r : Request} → Shared r → ℕ → List ℕ → Outstanding
+  taking : List ℕ → Outstanding
 
 -- The same as the runs of demand 3 name it.
-abbrev pub pendingOf : Owed → Pending
+abbrev pub pendingOf : Outstanding → Pending
 pendingOf nothing = Pending.settled
 pendingOf (standbyNext h n list) = Pending.leadHad h true
 pendingOf (leadNext h n list) = Pending.standbyHad h true
 pendingOf (taking list) = Pending.sent list
 
 -- Another request may come to the lead, or to the standby: it is not the one to do the change next.
-abbrev pub LeadFree : Owed → Type 0
+abbrev pub LeadFree : Outstanding → Type 0
 LeadFree nothing = Unit
 LeadFree (standbyNext h n list) = Unit
 LeadFree (leadNext h n list) = ⊥
 LeadFree (taking list) = Unit
 
-abbrev pub StandbyFree : Owed → Type 0
+abbrev pub StandbyFree : Outstanding → Type 0
 StandbyFree nothing = Unit
 StandbyFree (standbyNext h n list) = ⊥
 StandbyFree (leadNext h n list) = Unit
@@ -59,17 +59,17 @@ StandbyFree (taking list) = Unit
 
 -- A shared change is asked of both tables, and done on the one and then the other if both say yes; no request comes to a
 -- table between its yes and its doing. No premise speaks of an answer that a host has not had when it goes on.
-pub data AskedRun (t : ℕ) : List ℕ → List ℕ → Ledger → Owed → Type 0 where
+pub data AskedRun (t : ℕ) : List ℕ → List ℕ → Ledger → Outstanding → Type 0 where
   opened : (a b : List ℕ) (n m : ℕ) (s u : Settings) → FloatsFit s → FloatsFit u
       → openWords a n Lead t s .answer ≡ Accepted 0 → openWords b m Standby t u .answer ≡ Accepted 0
       → AskedRun t (openWords a n Lead t s .table) (openWords b m Standby t u .table) blank nothing
-  lead-local : {a b : List ℕ} {l : Ledger} {p : Owed} (orders list : List ℕ) (r : Request) → Local r → FloatsOf r → LeadFree p
+  lead-local : {a b : List ℕ} {l : Ledger} {p : Outstanding} (orders list : List ℕ) (r : Request) → Local r → FloatsOf r → LeadFree p
       → AskedRun t a b l p → AskedRun t (stepWords a orders list r .table) b l p
-  standby-local : {a b : List ℕ} {l : Ledger} {p : Owed} (orders list : List ℕ) (r : Request) → Local r → FloatsOf r → StandbyFree p
+  standby-local : {a b : List ℕ} {l : Ledger} {p : Outstanding} (orders list : List ℕ) (r : Request) → Local r → FloatsOf r → StandbyFree p
       → AskedRun t a b l p → AskedRun t a (stepWords b orders list r .table) l p
-  lead-refuses : {a b : List ℕ} {l : Ledger} {p : Owed} (orders list : List ℕ) (r : Request) → accepts (stepWords a orders list r) ≡ false → LeadFree p
+  lead-refuses : {a b : List ℕ} {l : Ledger} {p : Outstanding} (orders list : List ℕ) (r : Request) → accepts (stepWords a orders list r) ≡ false → LeadFree p
       → AskedRun t a b l p → AskedRun t (stepWords a orders list r .table) b l p
-  standby-refuses : {a b : List ℕ} {l : Ledger} {p : Owed} (orders list : List ℕ) (r : Request) → accepts (stepWords b orders list r) ≡ false → StandbyFree p
+  standby-refuses : {a b : List ℕ} {l : Ledger} {p : Outstanding} (orders list : List ℕ) (r : Request) → accepts (stepWords b orders list r) ≡ false → StandbyFree p
       → AskedRun t a b l p → AskedRun t a (stepWords b orders list r .table) l p
   lead-first : {a b : List ℕ} {l : Ledger} {r : Request} (h : Shared r) (orders list : List ℕ) (lent : ℕ) (theirs : List ℕ)
       → askWords a (length orders) list r ≡ verdict.Accepted → askWords b lent theirs r ≡ verdict.Accepted
