@@ -4,9 +4,10 @@
 //! The host lends three slices of words: a *table* that holds the cache from one request to the
 //! next, words for the *orders* that a request gives, and, for a standby, a *list* of addresses.
 //! [`open`] makes a fresh cache in a table, [`step`] does one request on it, [`ask`] tells what a
-//! request would be answered, [`report`] tells the figures. A request is accepted, and the host carries out its orders in turn, or it is refused,
-//! and then nothing has changed. A table has no pointers: the host may copy, move or store it
-//! between requests, and must not write to it. docs/RULES.md has each rule.
+//! request would be answered, [`report`] tells the figures. A request is accepted, and the host
+//! carries out its orders in turn, or it is refused, and then nothing has changed. A table has no
+//! pointers: the host may copy, move or store it between requests, and must not write to it.
+//! docs/RULES.md has each rule.
 //!
 //! Two words have two senses. An entry is *held* while readers or a writer hold it, between protect
 //! and release; *held bytes* are the sizes of all entries, held or not. An entry is *clean* if it is

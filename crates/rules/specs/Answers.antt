@@ -55,6 +55,7 @@ answerOrders (Refused r) = 0
 
 -- ---- verdicts
 
+-- No refusal is acceptance.
 abbrev pub verdictOf : Option Refusal → Verdict
 verdictOf none = verdict.Accepted
 verdictOf (some r) = verdict.Refused r
@@ -64,6 +65,7 @@ abbrev pub verdictIn : Answer → Verdict
 verdictIn (Accepted orders) = verdict.Accepted
 verdictIn (Refused r) = verdict.Refused r
 
+-- Its number and field are those of the answer.
 abbrev pub verdictNumber : Verdict → ℕ
 verdictNumber verdict.Accepted = 0
 verdictNumber (verdict.Refused r) = refusalNumber r
