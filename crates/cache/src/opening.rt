@@ -5,9 +5,8 @@ ghost use lib.Dec.{eqb, leb, ltb};
 ghost use Rattle.rules.specs.Limits.{mostRows, mostThreshold};
 ghost use Rattle.layout.specs.Layout.{layoutWords};
 ghost use Rattle.cache.specs.Tables.{opened, openWords};
-use layout::HEADER;
-use layout::WIDTH;
 use layout::fresh::write_fresh;
+use layout::place::layout_words;
 use rules::answer::Answer;
 use rules::answer::Refusal;
 use rules::request::Mode;
@@ -28,8 +27,7 @@ fn bad_rows(rows: u64, words: usize) -> bool
     if MOST_ROWS < rows {
         return true;
     }
-    let n = rows as usize;
-    words < HEADER + n * WIDTH + n + n
+    words < layout_words(rows as usize)
 }
 
 fn bad_threshold(threshold: u64) -> bool

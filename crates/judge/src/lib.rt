@@ -27,9 +27,10 @@ use layout::HEADER;
 use layout::HITS_AT;
 use layout::MAXIMUM_AT;
 use layout::MODE_AT;
-use layout::ROWS_AT;
+use layout::ROW_COUNT_AT;
 use layout::SETTINGS_AT;
 use layout::THRESHOLD_AT;
+use layout::VERSION_AT;
 use layout::WIDTH;
 use rows::addresses_rise;
 use rows::rows_allowed;
@@ -66,8 +67,8 @@ pub fn judge(table: &[u64]) -> bool
     if table.len() < HEADER {
         return false;
     }
-    let rows = table[ROWS_AT] as usize;
-    if !opening_allowed(table[0], rows, table[MODE_AT], table[THRESHOLD_AT]) {
+    let rows = table[ROW_COUNT_AT] as usize;
+    if !opening_allowed(table[VERSION_AT], rows, table[MODE_AT], table[THRESHOLD_AT]) {
         return false;
     }
     let recency = HEADER + rows * WIDTH;

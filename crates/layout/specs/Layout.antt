@@ -33,6 +33,31 @@ ones = 0xffff_ffff_ffff_ffff
 abbrev pub version : ℕ
 version = 0x5350_4c44_5654_0001
 
+-- The header's words.
+abbrev pub versionAt : ℕ
+versionAt = 0
+
+abbrev pub rowCountAt : ℕ
+rowCountAt = 1
+
+abbrev pub modeAt : ℕ
+modeAt = 2
+
+abbrev pub thresholdAt : ℕ
+thresholdAt = 3
+
+abbrev pub maximumAt : ℕ
+maximumAt = 4
+
+abbrev pub accessesAt : ℕ
+accessesAt = 5
+
+abbrev pub hitsAt : ℕ
+hitsAt = 6
+
+abbrev pub countAt : ℕ
+countAt = 7
+
 abbrev pub settingsAt : ℕ
 settingsAt = 8
 
@@ -51,10 +76,10 @@ abbrev pub recencyAt : ℕ → ℕ
 recencyAt n = headerWords + n * width
 
 abbrev pub addressesAt : ℕ → ℕ
-addressesAt n = headerWords + n * width + n
+addressesAt n = recencyAt n + n
 
 abbrev pub layoutWords : ℕ → ℕ
-layoutWords n = headerWords + n * width + n + n
+layoutWords n = addressesAt n + n
 
 -- ---- words
 

@@ -13,7 +13,7 @@ use Rattle.rules.specs.declared.order.Order.{Order}
 use Rattle.rules.specs.Addresses.{insertRising}
 use Rattle.rules.specs.Cache.{Cache}
 use Rattle.rules.specs.Entries.{if_then_else_}
-use Rattle.layout.specs.Layout.{ones, version, settingsAt, rowAt, recencyAt, addressesAt, layoutWords, modeWord, modeOf, holdWord, holdOf, kindWord}
+use Rattle.layout.specs.Layout.{ones, version, rowCountAt, modeAt, thresholdAt, maximumAt, accessesAt, hitsAt, countAt, settingsAt, rowAt, recencyAt, addressesAt, layoutWords, modeWord, modeOf, holdWord, holdOf, kindWord}
 
 -- ---- rows by number
 
@@ -100,21 +100,21 @@ abbrev pub cacheWith : ℕ → List ℕ → Cache
 cacheWith n ws = record {
   rows = rowsOf n 0 ws;
   recency = map (addressAt (rowsOf n 0 ws)) (runOf n (drop (recencyAt n) ws));
-  mode = modeOf (getD ws 2 0);
-  threshold = getD ws 3 0;
+  mode = modeOf (getD ws modeAt 0);
+  threshold = getD ws thresholdAt 0;
   settings = settingsOf (drop settingsAt ws);
-  maximum = getD ws 4 0;
-  accesses = getD ws 5 0;
-  hits = getD ws 6 0;
-  count = getD ws 7 0;
+  maximum = getD ws maximumAt 0;
+  accesses = getD ws accessesAt 0;
+  hits = getD ws hitsAt 0;
+  count = getD ws countAt 0;
 }
 
 unfoldable pub cacheIn : List ℕ → Cache
-cacheIn ws = cacheWith (getD ws 1 0) ws
+cacheIn ws = cacheWith (getD ws rowCountAt 0) ws
 
 -- The words past the layout's end.
 unfoldable pub restIn : List ℕ → List ℕ
-restIn ws = drop (layoutWords (getD ws 1 0)) ws
+restIn ws = drop (layoutWords (getD ws rowCountAt 0)) ws
 
 -- ---- orders
 

@@ -12,6 +12,7 @@ use crate::ONES;
 use crate::VERSION;
 use crate::WIDTH;
 use crate::header::put_settings;
+use crate::place::recency_at;
 use crate::word::mode_word;
 use rules::request::Mode;
 use settings::Settings;
@@ -36,5 +37,5 @@ pub fn write_fresh(table: &mut [u64], rows: usize, mode: Mode, threshold: u64, s
     words::copy_in(table, &head);
     put_settings(table, s);
     fill_part(table, HEADER, rows * WIDTH, 0);
-    fill_part(table, HEADER + rows * WIDTH, rows + rows, ONES);
+    fill_part(table, recency_at(rows), rows + rows, ONES);
 }

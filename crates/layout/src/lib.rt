@@ -17,6 +17,7 @@
 pub mod fresh;
 pub mod header;
 pub mod order;
+pub mod place;
 pub mod row;
 pub mod run;
 pub mod word;
@@ -28,7 +29,9 @@ pub const VERSION: u64 = 0x5350_4c44_5654_0001;
 pub const ONES: u64 = 18446744073709551615;
 
 // Where each header word stands.
-pub const ROWS_AT: usize = 1;
+pub const VERSION_AT: usize = 0;
+
+pub const ROW_COUNT_AT: usize = 1;
 
 pub const MODE_AT: usize = 2;
 

@@ -19,8 +19,8 @@ use crate::runs::listed_len;
 use crate::runs::used_len;
 use crate::search::free_row;
 use entries::is_listed;
-use layout::HEADER;
-use layout::WIDTH;
+use layout::place::addresses_at;
+use layout::place::recency_at;
 use layout::row::clear_dirty;
 use layout::row::clear_row;
 use layout::row::put_entry;
@@ -53,9 +53,8 @@ fn cut_runs(table: &mut [u64], rows: usize, pos: usize, place: usize)
 {
     let listed = listed_len(table, rows);
     let used = used_len(table, rows);
-    let recency = HEADER + rows * WIDTH;
-    run_cut(table, recency, listed, pos);
-    run_cut(table, recency + rows, used, place);
+    run_cut(table, recency_at(rows), listed, pos);
+    run_cut(table, addresses_at(rows), used, place);
 }
 
 // The entry at an address goes, from its place in the recency list, its place among the addresses, and its row.
@@ -82,7 +81,7 @@ fn place_entry(table: &mut [u64], rows: usize, e: Entry) -> usize
     let row = free_row(table, rows);
     let place = place_among(table, rows, e.address);
     put_entry(table, row, e);
-    run_put(table, HEADER + rows * WIDTH + rows, rows, place, row as u64);
+    run_put(table, addresses_at(rows), rows, place, row as u64);
     row
 }
 

@@ -12,7 +12,7 @@ use layout::COUNT_AT;
 use layout::HITS_AT;
 use layout::MAXIMUM_AT;
 use layout::MODE_AT;
-use layout::ROWS_AT;
+use layout::ROW_COUNT_AT;
 use layout::THRESHOLD_AT;
 use layout::header::put_settings;
 use layout::header::settings_at;
@@ -24,7 +24,7 @@ pub fn row_count(table: &[u64]) -> usize
     requires { ⌜ Good (now table) ⌝ }
     ensures { λ r. ⌜ r ≡ length (cacheIn (now (table .entry)) .rows) ⌝ }
 {
-    table[ROWS_AT] as usize
+    table[ROW_COUNT_AT] as usize
 }
 
 pub fn mode(table: &[u64]) -> Mode

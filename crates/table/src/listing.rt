@@ -9,8 +9,7 @@ ghost use Rattle.table.specs.Asked.{GoodRows, RowOf};
 ghost use Rattle.table.specs.Told.{Off, putOn};
 use crate::lookup::recency_place;
 use crate::runs::listed_len;
-use layout::HEADER;
-use layout::WIDTH;
+use layout::place::recency_at;
 use layout::run::run_cut;
 
 // The address leaves the list, if it is there; the answer is the list's length then.
@@ -21,7 +20,7 @@ pub fn list_off(table: &mut [u64], rows: usize, row: usize, address: u64, was: b
     let n = listed_len(table, rows);
     if was {
         let pos = recency_place(table, rows, row, address);
-        run_cut(table, HEADER + rows * WIDTH, n, pos);
+        run_cut(table, recency_at(rows), n, pos);
         return n - 1;
     }
     n
@@ -33,7 +32,7 @@ pub fn list_on(table: &mut [u64], rows: usize, n: usize, row: usize, on: bool)
     ensures { λ _. ⌜ now (table .exit) ≡ putOn on rows n row (now (table .entry)) ⌝ }
 {
     if on {
-        table[HEADER + rows * WIDTH + n] = row as u64;
+        table[recency_at(rows) + n] = row as u64;
         return;
     }
 }

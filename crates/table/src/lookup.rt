@@ -13,6 +13,8 @@ ghost use Rattle.table.specs.Told.{foundIn, listedAt};
 use crate::runs::used_len;
 use layout::HEADER;
 use layout::WIDTH;
+use layout::place::addresses_at;
+use layout::place::recency_at;
 use layout::row::entry_at;
 use rules::entry::Entry;
 
@@ -27,7 +29,7 @@ pub fn recency_row(table: &[u64], rows: usize, pos: usize) -> usize
     requires { ⌜ GoodRows (now table) rows × (pos < length (cacheIn (now table) .recency)) ⌝ }
     ensures { λ r. ⌜ RowOf (cacheIn (now (table .entry)) .rows) (listedAt (now (table .entry)) pos) r ⌝ }
 {
-    table[HEADER + rows * WIDTH + pos] as usize
+    table[recency_at(rows) + pos] as usize
 }
 
 // The row at a place among the rising addresses.
@@ -35,7 +37,7 @@ pub fn address_row(table: &[u64], rows: usize, place: usize) -> usize
     requires { ⌜ GoodRows (now table) rows × (place < length (addresses (cacheIn (now table) .rows))) ⌝ }
     ensures { λ r. ⌜ RowOf (cacheIn (now (table .entry)) .rows) (getD (addresses (cacheIn (now (table .entry)) .rows)) place 0) r ⌝ }
 {
-    table[HEADER + rows * WIDTH + rows + place] as usize
+    table[addresses_at(rows) + place] as usize
 }
 
 // The address at a place among the rising addresses.
@@ -144,7 +146,7 @@ pub fn recency_place(table: &[u64], rows: usize, row: usize, address: u64) -> us
     requires { ⌜ GoodRows (now table) rows × RowOf (cacheIn (now table) .rows) address row × (elem address (cacheIn (now table) .recency) ≡ true) ⌝ }
     ensures { λ r. ⌜ PlaceIn (cacheIn (now (table .entry)) .recency) address r ⌝ }
 {
-    let at = HEADER + rows * WIDTH;
+    let at = recency_at(rows);
     let mut i: usize = 0;
     while i < rows {
         if table[at + i] == row as u64 {

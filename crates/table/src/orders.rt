@@ -20,6 +20,7 @@ use entries::cleaned;
 use layout::HEADER;
 use layout::WIDTH;
 use layout::order::order_put;
+use layout::place::recency_at;
 use layout::row::entry_at;
 use layout::row::put_entry;
 use layout::run::run_cut;
@@ -99,7 +100,7 @@ fn turn_row(table: &mut [u64], rows: usize, n: usize, row: usize, e: Entry)
 {
     let clean = cleaned(e);
     put_entry(table, row, clean);
-    let recency = HEADER + rows * WIDTH;
+    let recency = recency_at(rows);
     run_cut(table, recency, n, 0);
     table[recency + (n - 1)] = row as u64;
 }

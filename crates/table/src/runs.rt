@@ -4,9 +4,9 @@ ghost use lib.ListN.{length, drop};
 ghost use Rattle.rules.specs.Rows.{hasFree};
 ghost use Rattle.layout.specs.Picture.{addresses, cacheIn, runOf};
 ghost use Rattle.table.specs.Asked.{GoodRows, RunIn};
-use layout::HEADER;
 use layout::ONES;
-use layout::WIDTH;
+use layout::place::addresses_at;
+use layout::place::recency_at;
 
 // How many words of the run of n words at `at` stand before all ones.
 fn run_length(table: &[u64], at: usize, n: usize) -> usize
@@ -31,7 +31,7 @@ pub fn listed_len(table: &[u64], rows: usize) -> usize
     requires { ⌜ GoodRows (now table) rows ⌝ }
     ensures { λ r. ⌜ r ≡ length (cacheIn (now (table .entry)) .recency) ⌝ }
 {
-    run_length(table, HEADER + rows * WIDTH, rows)
+    run_length(table, recency_at(rows), rows)
 }
 
 // The number of entries.
@@ -39,7 +39,7 @@ pub fn used_len(table: &[u64], rows: usize) -> usize
     requires { ⌜ GoodRows (now table) rows ⌝ }
     ensures { λ r. ⌜ r ≡ length (addresses (cacheIn (now (table .entry)) .rows)) ⌝ }
 {
-    run_length(table, HEADER + rows * WIDTH + rows, rows)
+    run_length(table, addresses_at(rows), rows)
 }
 
 // Whether a row is free.

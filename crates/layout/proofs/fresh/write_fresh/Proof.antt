@@ -22,14 +22,11 @@ mul-fill-part c = search needs
 fill-part-requires : tie.Need-fill-part-requires
 fill-part-requires c κs = search needs
 
-mul-fill-part-2 : tie.Need-mul-fill-part-2
-mul-fill-part-2 c = search needs
+recency-at-requires : tie.Need-recency-at-requires
+recency-at-requires c κs = search needs
 
 add-fill-part : tie.Need-add-fill-part
 add-fill-part c = search needs
-
-add-fill-part-2 : tie.Need-add-fill-part-2
-add-fill-part-2 c = search needs
 
 fill-part-requires-2 : tie.Need-fill-part-requires-2
 fill-part-requires-2 c κs = search needs
@@ -39,10 +36,10 @@ same-length c = search needs
 
 returns : tie.Need-returns
 returns c =
-    let s = c .before .before .before .before .before .before .before .before .before .before .before .before .before .before .before .before .before .before .before .args in (
-      rw (c .before .before .fill-part2 .ensures, c .before .before .before .before .before .before .fill-part .ensures, c .before .before .before .before .before .before .before .before .before .before .put-settings .ensures .0, c .before .before .before .before .before .before .before .before .before .before .before .before .before .before .copy-in .ensures, c .before .before .before .before .before .before .before .before .before .before .before .before .before .before .before .before .before .mode-word .ensures)
+    let s = c .before .before .before .before .before .before .before .before .before .before .before .before .before .before .before .before .before .before .before .before .args in (
+      rw (c .before .before .fill-part2 .ensures, c .before .before .before .recency-at .ensures, c .before .before .before .before .before .before .before .fill-part .ensures, c .before .before .before .before .before .before .before .before .before .before .before .put-settings .ensures .0, c .before .before .before .before .before .before .before .before .before .before .before .before .before .before .before .copy-in .ensures, c .before .before .before .before .before .before .before .before .before .before .before .before .before .before .before .before .before .before .mode-word .ensures)
           (fresh-words (s .rows) (s .mode) (s .threshold) (s .s) (s .table .now)),
-      c .before .before .before .before .before .before .before .before .before .before .put-settings .ensures .1,
+      c .before .before .before .before .before .before .before .before .before .before .before .put-settings .ensures .1,
     )
 
 pub write-fresh-spec : {M : Type 1} → statement M
@@ -55,9 +52,8 @@ write-fresh-spec =
     put-settings-requires
     mul-fill-part
     fill-part-requires
-    mul-fill-part-2
+    recency-at-requires
     add-fill-part
-    add-fill-part-2
     fill-part-requires-2
     same-length
     returns)

@@ -10,17 +10,14 @@ listed-len-requires c κs = search needs
 used-len-requires : tie.Need-used-len-requires
 used-len-requires c κs = search needs
 
-mul-recency : tie.Need-mul-recency
-mul-recency c = search needs
-
-add-recency : tie.Need-add-recency
-add-recency c = search needs
+recency-at-requires : tie.Need-recency-at-requires
+recency-at-requires c κs = search needs
 
 run-cut-requires : tie.Need-run-cut-requires
 run-cut-requires c κs = search needs
 
-add-run-cut : tie.Need-add-run-cut
-add-run-cut c = search needs
+addresses-at-requires : tie.Need-addresses-at-requires
+addresses-at-requires c κs = search needs
 
 run-cut-requires-2 : tie.Need-run-cut-requires-2
 run-cut-requires-2 c κs = search needs
@@ -30,8 +27,8 @@ same-length c = search needs
 
 returns : tie.Need-returns
 returns c =
-    let p = c .before .before .before .before .before .before .before .before .before .before .before .before .before .pre in
-    rw (c .before .before .run-cut2 .ensures, c .before .before .before .before .before .before .run-cut .ensures, c .before .before .before .before .before .before .before .before .used-len .ensures, c .before .before .before .before .before .before .before .before .before .before .listed-len .ensures, p .0 .size)
+    let p = c .before .before .before .before .before .before .before .before .before .before .before .before .before .before .before .pre in
+    rw (c .before .before .run-cut2 .ensures, c .before .before .before .addresses-at .ensures, c .before .before .before .before .before .before .before .run-cut .ensures, c .before .before .before .before .before .before .before .before .recency-at .ensures, c .before .before .before .before .before .before .before .before .before .before .used-len .ensures, c .before .before .before .before .before .before .before .before .before .before .before .before .listed-len .ensures, p .0 .size)
     (cut-both (p .0 .good) _ _ (p .1) (p .2))
 
 pub cut-runs-spec : {M : Type 1} → statement M
@@ -40,10 +37,9 @@ cut-runs-spec =
     (tie.spec
     listed-len-requires
     used-len-requires
-    mul-recency
-    add-recency
+    recency-at-requires
     run-cut-requires
-    add-run-cut
+    addresses-at-requires
     run-cut-requires-2
     same-length
     returns)

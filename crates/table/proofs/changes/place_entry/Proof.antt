@@ -19,31 +19,25 @@ put-entry-requires c κs =
     let p = start .pre in
     omega (arith, lowest-low (cacheIn (start .args .table .now) .rows) (p .1 .free), c .before .before .before .free-row .ensures, p .0 .size, p .0 .good .long)
 
-mul-run-put : tie.Need-mul-run-put
-mul-run-put c = search needs
-
-add-run-put : tie.Need-add-run-put
-add-run-put c = search needs
-
-add-run-put-2 : tie.Need-add-run-put-2
-add-run-put-2 c = search needs
+addresses-at-requires : tie.Need-addresses-at-requires
+addresses-at-requires c κs = search needs
 
 run-put-requires : tie.Need-run-put-requires
 run-put-requires c κs =
-    let start = c .before .before .before .before .before .before .before .before .before .before in
+    let start = c .before .before .before .before .before .before .before .before .before .before .before in
     let p = start .pre in
-    omega (arith, place-fits (p .0 .good) (start .args .e) (p .1), c .before .before .before .before .before .place-among .ensures, p .0 .size, p .0 .good .long, c .before .before .before .put-entry .kept .0)
+    omega (arith, place-fits (p .0 .good) (start .args .e) (p .1), c .before .before .before .before .before .before .place-among .ensures, c .addresses-at .ensures, p .0 .size, p .0 .good .long, c .before .before .before .before .put-entry .kept .0)
 
 same-length : tie.Need-same-length
 same-length c = search needs
 
 returns : tie.Need-returns
 returns c =
-    let start = c .before .before .before .before .before .before .before .before .before .before .before .before .before in
+    let start = c .before .before .before .before .before .before .before .before .before .before .before .before .before .before in
     let p = start .pre in
     record {
-      words = rw (c .before .before .run-put .ensures, c .before .before .before .before .before .before .put-entry .ensures, c .before .before .before .before .before .before .before .before .place-among .ensures, c .before .before .before .before .before .before .before .before .before .before .free-row .ensures, p .0 .size) (place-words (p .0 .good) (start .args .e) (p .1));
-      number = c .before .before .before .before .before .before .before .before .before .before .free-row .ensures;
+      words = rw (c .before .before .run-put .ensures, c .before .before .before .addresses-at .ensures, c .before .before .before .before .before .before .before .put-entry .ensures, c .before .before .before .before .before .before .before .before .before .place-among .ensures, c .before .before .before .before .before .before .before .before .before .before .before .free-row .ensures, p .0 .size) (place-words (p .0 .good) (start .args .e) (p .1));
+      number = c .before .before .before .before .before .before .before .before .before .before .before .free-row .ensures;
     }
 
 pub place-entry-spec : {M : Type 1} → statement M
@@ -53,9 +47,7 @@ place-entry-spec =
     free-row-requires
     place-among-requires
     put-entry-requires
-    mul-run-put
-    add-run-put
-    add-run-put-2
+    addresses-at-requires
     run-put-requires
     same-length
     returns)

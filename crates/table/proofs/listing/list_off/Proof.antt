@@ -14,11 +14,8 @@ listed-len-requires c κs = search needs
 recency-place-requires : tie.Need-recency-place-requires
 recency-place-requires c κs = let p = c .before .before .before .before .before .pre in (p .0, p .1, sym (p .2) ∙ c .before .if1 .taken)
 
-mul-run-cut : tie.Need-mul-run-cut
-mul-run-cut c = search needs
-
-add-run-cut : tie.Need-add-run-cut
-add-run-cut c = search needs
+recency-at-requires : tie.Need-recency-at-requires
+recency-at-requires c κs = search needs
 
 run-cut-requires : tie.Need-run-cut-requires
 run-cut-requires c κs = search needs
@@ -31,11 +28,11 @@ same-length c = search needs
 
 returns : tie.Need-returns
 returns c =
-    let g = c .before .before .before .before .before .before .before .before .before .before .pre .0 in
-    let n = c .before .before .before .before .before .before .before .listed-len .ensures in
-    let p = c .before .before .before .before .recency-place .ensures in
+    let g = c .before .before .before .before .before .before .before .before .before .before .before .pre .0 in
+    let n = c .before .before .before .before .before .before .before .before .listed-len .ensures in
+    let p = c .before .before .before .before .before .recency-place .ensures in
     record {
-      words = rw (c .before .before .run-cut .ensures, n, g .size) (cut-listed (g .good) _ (p .low) ∙ off-words (g .good) _ _ p);
+      words = rw (c .before .before .run-cut .ensures, c .before .before .before .recency-at .ensures, n, g .size) (cut-listed (g .good) _ (p .low) ∙ off-words (g .good) _ _ p);
       listed = omega (arith, off-length (g .good) _ _ p);
     }
 
@@ -54,8 +51,7 @@ list-off-spec =
     (tie.spec
     listed-len-requires
     recency-place-requires
-    mul-run-cut
-    add-run-cut
+    recency-at-requires
     run-cut-requires
     sub-result
     same-length

@@ -4,17 +4,14 @@ use borrow.Author.Needs.{needs}
 use Rattle.table.proofs.listing.list_on.Statement.{statement}
 use Rattle.table.proofs.listing.list_on.Tie as tie
 
-mul-table : tie.Need-mul-table
-mul-table c = search needs
+recency-at-requires : tie.Need-recency-at-requires
+recency-at-requires c κs = search needs
 
 add-table : tie.Need-add-table
 add-table c = search needs
 
-add-table-2 : tie.Need-add-table-2
-add-table-2 c = search needs
-
-mul-table-2 : tie.Need-mul-table-2
-mul-table-2 c = search needs
+mul-table : tie.Need-mul-table
+mul-table c = search needs
 
 slice-write-table : tie.Need-slice-write-table
 slice-write-table c = search needs
@@ -23,7 +20,7 @@ same-length : tie.Need-same-length
 same-length c = search needs
 
 returns : tie.Need-returns
-returns c = rw (c .if1 .taken) refl
+returns c = rw (c .before .if1 .taken, c .recency-at .ensures) refl
 
 returns-2 : tie.Need-returns-2
 returns-2 c = rw (c .if1 .left) refl
@@ -32,10 +29,9 @@ pub list-on-spec : {M : Type 1} → statement M
 list-on-spec =
     tie.close
     (tie.spec
-    mul-table
+    recency-at-requires
     add-table
-    add-table-2
-    mul-table-2
+    mul-table
     slice-write-table
     same-length
     returns

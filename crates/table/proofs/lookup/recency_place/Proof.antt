@@ -11,19 +11,16 @@ use Rattle.table.proofs.lookup.recency_place.Statement.{statement}
 use Rattle.table.proofs.lookup.recency_place.Tie as tie
 
 abbrev Inv-loop : tie.InvT-loop
-Inv-loop table rows row address at i₀ i = (i ≤ rows) × ((k : ℕ) → k < i → getD table (recencyAt rows + k) 0 ≡ row → ⊥)
+Inv-loop table rows row address at i₀ i = (at ≡ recencyAt rows) × (i ≤ rows) × ((k : ℕ) → k < i → getD table (at + k) 0 ≡ row → ⊥)
 
 abbrev μ-loop : tie.MeasureT-loop
 μ-loop table rows row address at i₀ i = rows - i
 
-mul-at : tie.Need-mul-at Inv-loop μ-loop
-mul-at c = search needs
-
-add-at : tie.Need-add-at Inv-loop μ-loop
-add-at c = search needs
+recency-at-requires : tie.Need-recency-at-requires Inv-loop μ-loop
+recency-at-requires c κs = search needs
 
 loop-holds : tie.Need-loop-holds Inv-loop μ-loop
-loop-holds c = (search needs, λ k h. absurd (omega arith))
+loop-holds c = (c .recency-at .ensures, search needs, λ k h. absurd (omega arith))
 
 add-if1 : tie.Need-add-if1 Inv-loop μ-loop
 add-if1 c = search needs
@@ -36,8 +33,9 @@ shared-slice-read-if1 c = search needs
 
 returns : tie.Need-returns Inv-loop μ-loop
 returns c =
-    let start = c .before .before .before .before in
-    place-hit (start .pre .0) (start .pre .1) (c .before .before .before .loop .i) (omega arith) (c .if1 .taken)
+    let start = c .before .before .before .before .before .before in
+    let at = c .before .before .before .before .recency-at .ensures in
+    place-hit (start .pre .0) (start .pre .1) (c .before .before .before .loop .i) (omega arith) (rw (← at) (c .if1 .taken))
 
 add-i : tie.Need-add-i Inv-loop μ-loop
 add-i c = search needs
@@ -46,12 +44,13 @@ loop-less : tie.Need-loop-less Inv-loop μ-loop
 loop-less c = search needs
 
 loop-again : tie.Need-loop-again Inv-loop μ-loop
-loop-again c = (search needs, below-more _ _ (c .before .before .before .loop .inv .1) (c .if1 .left))
+loop-again c = (c .before .before .before .loop .inv .0, search needs, below-more _ _ (c .before .before .before .loop .inv .2) (c .if1 .left))
 
 returns-2 : tie.Need-returns-2 Inv-loop μ-loop
 returns-2 c =
-    let start = c .before .before in
-    absurd (place-missed (start .pre .0) (start .pre .1) (start .pre .2) (λ k l. c .before .loop .inv .1 k (omega arith)))
+    let start = c .before .before .before .before in
+    let at = c .before .before .recency-at .ensures in
+    absurd (place-missed (start .pre .0) (start .pre .1) (start .pre .2) (rw (← at) (λ k l. c .before .loop .inv .2 k (omega arith))))
 
 pub recency-place-spec : {M : Type 1} → statement M
 recency-place-spec =
@@ -59,8 +58,7 @@ recency-place-spec =
     (tie.spec
     Inv-loop
     μ-loop
-    mul-at
-    add-at
+    recency-at-requires
     loop-holds
     add-if1
     mul-if1

@@ -4,27 +4,24 @@ use Rattle.table.proofs.Told.{recency-number}
 use Rattle.table.proofs.lookup.recency_row.Statement.{statement}
 use Rattle.table.proofs.lookup.recency_row.Tie as tie
 
-mul-result : tie.Need-mul-result
-mul-result c = search needs
+recency-at-requires : tie.Need-recency-at-requires
+recency-at-requires c κs = search needs
 
 add-result : tie.Need-add-result
 add-result c = search needs
 
-add-result-2 : tie.Need-add-result-2
-add-result-2 c = search needs
-
-mul-result-2 : tie.Need-mul-result-2
-mul-result-2 c = search needs
+mul-result : tie.Need-mul-result
+mul-result c = search needs
 
 shared-slice-read-result : tie.Need-shared-slice-read-result
 shared-slice-read-result c = search needs
 
 returns : tie.Need-returns
 returns c =
-    let start = c .before in
-    recency-number (start .pre .0) (start .args .pos) (start .pre .1)
+    let start = c .before .before .before in
+    rw (c .before .recency-at .ensures) (recency-number (start .pre .0) (start .args .pos) (start .pre .1))
 
 pub recency-row-spec : {M : Type 1} → statement M
 recency-row-spec =
     tie.close
-    (tie.spec mul-result add-result add-result-2 mul-result-2 shared-slice-read-result returns)
+    (tie.spec recency-at-requires add-result mul-result shared-slice-read-result returns)

@@ -15,11 +15,8 @@ put-entry-requires c κs =
     let start = c .before .before .before in
     row-fits (start .pre .0) (start .pre .3)
 
-mul-recency : tie.Need-mul-recency
-mul-recency c = search needs
-
-add-recency : tie.Need-add-recency
-add-recency c = search needs
+recency-at-requires : tie.Need-recency-at-requires
+recency-at-requires c κs = search needs
 
 run-cut-requires : tie.Need-run-cut-requires
 run-cut-requires c κs = search needs
@@ -37,13 +34,13 @@ slice-write-table : tie.Need-slice-write-table
 slice-write-table c = search needs
 
 same-length : tie.Need-same-length
-same-length c = simp length-set (omega (arith, c .before .before .run-cut .kept .0, c .before .before .before .before .before .before .put-entry .kept .0))
+same-length c = simp length-set (omega (arith, c .before .before .run-cut .kept .0, c .before .before .before .before .before .before .before .put-entry .kept .0))
 
 returns : tie.Need-returns
 returns c =
-    let start = c .before .before .before .before .before .before .before .before .before .before in
+    let start = c .before .before .before .before .before .before .before .before .before .before .before in
     let p = start .pre in
-    rw (c .before .before .run-cut .ensures, c .before .before .before .before .before .before .put-entry .ensures, c .before .before .before .before .before .before .before .before .cleaned .ensures, p .0 .size, p .3 .number)
+    rw (c .before .before .run-cut .ensures, c .before .before .before .before .recency-at .ensures, c .before .before .before .before .before .before .before .put-entry .ensures, c .before .before .before .before .before .before .before .before .before .cleaned .ensures, p .0 .size, p .3 .number)
     (turn-holds (p .0 .good) (omega (arith, p .1, p .2)) (start .args .e) (start .args .n) (p .4) (p .2))
 
 pub turn-row-spec : {M : Type 1} → statement M
@@ -52,8 +49,7 @@ turn-row-spec =
     (tie.spec
     cleaned-requires
     put-entry-requires
-    mul-recency
-    add-recency
+    recency-at-requires
     run-cut-requires
     sub-table
     add-table

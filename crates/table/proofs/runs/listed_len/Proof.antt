@@ -5,17 +5,14 @@ use Rattle.table.proofs.Told.{recency-run, recency-length}
 use Rattle.table.proofs.runs.listed_len.Statement.{statement}
 use Rattle.table.proofs.runs.listed_len.Tie as tie
 
-mul-run-length : tie.Need-mul-run-length
-mul-run-length c = search needs
-
-add-run-length : tie.Need-add-run-length
-add-run-length c = search needs
+recency-at-requires : tie.Need-recency-at-requires
+recency-at-requires c κs = search needs
 
 run-length-requires : tie.Need-run-length-requires
-run-length-requires c κs = recency-run (c .before .pre)
+run-length-requires c κs = rw (c .recency-at .ensures) (recency-run (c .before .before .pre))
 
 returns : tie.Need-returns
-returns c = c .run-length .ensures ∙ recency-length (c .before .before .pre)
+returns c = rw (c .run-length .ensures, c .before .recency-at .ensures) (recency-length (c .before .before .before .pre))
 
 pub listed-len-spec : {M : Type 1} → statement M
-listed-len-spec = tie.close (tie.spec mul-run-length add-run-length run-length-requires returns)
+listed-len-spec = tie.close (tie.spec recency-at-requires run-length-requires returns)
