@@ -6,19 +6,19 @@ use lib.Ieee.{mul, div, sub, lt, le, eq, round, ofInt, toUnsigned}
 use Rattle.fraction.specs.Examples.{every}
 use Rattle.fraction.specs.Fraction.{sizeProduct, hitRate, reserveQuotient, exceedsShare}
 use Rattle.settings.specs.Validation.{firstBad}
-use Rattle.rules.specs.Addresses.{elem, strike, someAddress, twice, insertRising}
+use Rattle.rules.specs.Addresses.{elem, strike, someAddress, nearest, twice, insertRising}
 use Rattle.rules.specs.Cases.{cases, further, ran, run, after, reversed, cacheOf, isValid}
 use Rattle.rules.specs.Opening.{refusalOfOpening}
 use Rattle.rules.specs.Refusals.{firstOf, tests, refusalOf}
 use Rattle.rules.specs.Reports.{reportOf, totalsFrom}
 use Rattle.rules.specs.Requests.{effect, step}
 use Rattle.rules.specs.Resizing.{flashed, evictAged, ageOut, resized, endEpoch, countAccess}
-use Rattle.rules.specs.Room.{cleanBytes, evictTail, evictClean, writeDirty, roomIn, makeRoom}
+use Rattle.rules.specs.Room.{cleanBytes, turns, writeDirty, roomIn, makeRoom}
 use Rattle.rules.specs.Rows.{get, amend, amendEach, amendAll, remove, place, hasFree, someEntry, total, dirtyRising}
 
 -- to unfold this is to unfold all the rules
 unfoldable pub computing : Unit {0}
-unfolding elem strike someAddress twice insertRising firstOf tests refusalOf refusalOfOpening reportOf totalsFrom effect step flashed evictAged ageOut resized endEpoch countAccess cleanBytes evictTail evictClean writeDirty roomIn makeRoom get amend amendEach amendAll remove place hasFree someEntry total dirtyRising mul div sub lt le eq round ofInt toUnsigned sizeProduct hitRate reserveQuotient exceedsShare firstBad
+unfolding elem strike someAddress nearest twice insertRising firstOf tests refusalOf refusalOfOpening reportOf totalsFrom effect step flashed evictAged ageOut resized endEpoch countAccess cleanBytes turns writeDirty roomIn makeRoom get amend amendEach amendAll remove place hasFree someEntry total dirtyRising mul div sub lt le eq round ofInt toUnsigned sizeProduct hitRate reserveQuotient exceedsShare firstBad
 computing = tt
 
 pub worked : map ran cases ≡ map (λ x. x .gives) cases

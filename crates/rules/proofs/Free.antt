@@ -1,6 +1,6 @@
 -- A row is free once room has been made: a loop that wants a row ends when one is free or when nothing is left to turn to, and before
 -- that it has evicted an entry if there was one to evict.
-use Prim.Native.Nat.{ℕ, _+_}
+use Prim.Native.Nat.{ℕ, _*_}
 use mathlib.Core.Path.{_≡_, refl, sym, ap, subst, _∙_}
 use mathlib.Core.Bool.{Bool, true, false, not, _&&_, _||_, true≢false}
 use mathlib.Core.Option.{Option, none, some, Option·map, Option·some-ne-none}
@@ -12,19 +12,19 @@ use Rattle.rules.specs.declared.entry.Row.{Row}
 use Rattle.rules.specs.declared.entry.Row.the-variants.{Free, Used}
 use Rattle.rules.specs.declared.request.Mode.{Mode}
 use Rattle.rules.specs.declared.request.Mode.the-variants.{Alone, Lead, Standby}
-use Rattle.rules.specs.Addresses.{elem, someAddress}
+use Rattle.rules.specs.Addresses.{elem, nearest, someAddress}
 use Rattle.rules.specs.Allowed.{Sound}
 use Rattle.rules.specs.Cache.{Work}
-use Rattle.rules.specs.Entries.{isListed, isClean, cleaned}
-use Rattle.rules.specs.Loops.{While, met, none-left, again, nearest, tailTurn, cleanTurn}
+use Rattle.rules.specs.Entries.{if_then_else_, isListed, isClean, cleaned}
+use Rattle.rules.specs.Loops.{While, met, none-left, again}
 use Rattle.rules.specs.Refusals.{noRow, mayEvict}
 use Rattle.rules.specs.Resizing.{older}
-use Rattle.rules.specs.Room.{evict, write, overfull, lacking, lookAtTail, evictTail, roomIn, makeRoom}
+use Rattle.rules.specs.Room.{evict, write, overfull, lacking, lookAtTail, tailTurn, cleanTurn, evictBy, roomIn, makeRoom}
 use Rattle.rules.specs.Rows.{amendAll, hasFree, cleanAt, dirtyAt}
 use Rattle.rules.proofs.Found.{free-remove, free-removed, free-amend}
 use Rattle.rules.proofs.Lists.{elem-first}
 use Rattle.rules.proofs.Loops.{clean-while, tail-while}
-use Rattle.rules.proofs.Moves.{Moves, done, evicts, writes, tunes, ages, look-moves, sound-remove, sound-listed, dirty-moves, tail-moves, moves-sound}
+use Rattle.rules.proofs.Moves.{Moves, done, evicts, writes, tunes, ages, Turning, tail-turns, clean-turns, turns-move, nearest-in, sound-listed, dirty-moves, moves-sound}
 use Rattle.rules.proofs.Tests.{split, choose, or-true, or-false, and-true}
 
 -- ---- moves keep a free row
@@ -56,47 +56,39 @@ not-lacking : (over free : Bool) → over || not free ≡ false → free ≡ tru
 not-lacking over true h = refl
 not-lacking over false h = absurd (true≢false (sym (or-true over) ∙ h))
 
--- a sound cache stays so, and a row is free or there is a turn again
+-- after a turn a row is free or there is a turn again
 abbrev Onward : (Work → Option Work) → Type 0
-Onward turn = (w u : Work) → Sound (w .cache) → turn w ≡ some u → Sound (u .cache) × Gives turn u
+Onward turn = (w u : Work) → Sound (w .cache) → turn w ≡ some u → Gives turn u
 
-module _ (x : ℕ) (turn : Work → Option Work) (onward : Onward turn) where
+module _ (x : ℕ) {may : Bool} {turn : Work → Option Work} (turning : Turning may false turn) (onward : Onward turn) where
   free-while : {w v : Work} → While (λ w. lacking x true (w .cache)) turn w v → Sound (w .cache) → Gives turn w → hasFree (v .cache .rows) ≡ true
   free-while (met {w} h) p g = not-lacking (overfull x (w .cache)) (hasFree (w .cache .rows)) h
   free-while (none-left {w} h n) p g = simp (n, or-false) at g
-  free-while (again {w} {u} h e l) p g = let k = onward w u p e in free-while l (k .0) (k .1)
+  free-while (again {w} {u} h e l) p g = free-while l (moves-sound (turning w u p e .moves) p) (onward w u p e)
 
 -- ---- alone
 
-tail-gives : Onward (λ w. tailTurn (w .cache .recency) w)
+tail-gives : Onward tailTurn
 tail-gives w u k = go (w .cache .recency) refl
   where
-    head : (l : List ℕ) (a : ℕ) (v : Work) → isSome (tailTurn (l ++ a ∷ []) v) ≡ true
+    head : (l : List ℕ) (a : ℕ) (v : Work) → isSome (lookAtTail (l ++ a ∷ []) v) ≡ true
     head [] a v = refl
     head (b ∷ l) a v = refl
 
-    looked : (a : ℕ) (l : List ℕ) → w .cache .recency ≡ a ∷ l → Gives (λ w. tailTurn (w .cache .recency) w) (lookAtTail (a ∷ l) w)
+    looked : (a : ℕ) (l : List ℕ) → w .cache .recency ≡ a ∷ l
+        → Gives tailTurn (if dirtyAt (w .cache .rows) a then write a (l ++ a ∷ []) w else evict a w)
     looked a l e =
-        choose (Gives (λ w. tailTurn (w .cache .recency) w)) (dirtyAt (w .cache .rows) a)
+        choose (Gives tailTurn) (dirtyAt (w .cache .rows) a)
         (λ d. rw (head l a (write a (l ++ a ∷ []) w)) (or-true (hasFree _)))
         (λ d. rw (free-removed isListed a (w .cache .rows) (sym (k .listed a) ∙ ap (elem a) e ∙ elem-first a l)))
 
-    go : (l : List ℕ) → w .cache .recency ≡ l → tailTurn l w ≡ some u → Sound (u .cache) × Gives (λ w. tailTurn (w .cache .recency) w) u
+    go : (l : List ℕ) → w .cache .recency ≡ l → lookAtTail l w ≡ some u → Gives tailTurn u
     go [] e n = absurd (Option·some-ne-none u (sym n))
     go (a ∷ l) e n =
-        let same : lookAtTail (a ∷ l) w ≡ u = cc in
-        subst (λ (v : Work). Sound (v .cache) × Gives (λ w. tailTurn (w .cache .recency) w) v) same
-        (moves-sound (look-moves {sets = false} (a ∷ l) w e k) k, looked a l e)
+        let same : (if dirtyAt (w .cache .rows) a then write a (l ++ a ∷ []) w else evict a w) ≡ u = cc in
+        subst (Gives tailTurn) same (looked a l e)
 
 -- ---- lead and standby
-
-nearest-passes : (test : ℕ → Bool) (a : ℕ) (l : List ℕ) → nearest test l ≡ some a → test a ≡ true
-unfolding nearest
-nearest-passes test a [] h = absurd (Option·some-ne-none a (sym h))
-nearest-passes test a (b ∷ l) h =
-    split (test b)
-    (λ p. let g : some b ≡ some a = simp p at h in let e : b ≡ a = cc in subst (λ (x : ℕ). test x ≡ true) e p)
-    (λ p. nearest-passes test a l (simp p at h))
 
 nearest-some : (test : ℕ → Bool) (l : List ℕ) (w : Work) → isSome (Option·map (λ a. evict a w) (nearest test l)) ≡ someAddress test l
 unfolding nearest someAddress
@@ -106,16 +98,15 @@ nearest-some test (a ∷ l) w = split (test a) (λ p. rw p) (λ p. rw p (nearest
 clean-gives : Onward cleanTurn
 clean-gives w u k = go (nearest (cleanAt (w .cache .rows)) (w .cache .recency)) refl
   where
-    go : (o : Option ℕ) → nearest (cleanAt (w .cache .rows)) (w .cache .recency) ≡ o → Option·map (λ a. evict a w) o ≡ some u → Sound (u .cache) × Gives cleanTurn u
+    go : (o : Option ℕ) → nearest (cleanAt (w .cache .rows)) (w .cache .recency) ≡ o → Option·map (λ a. evict a w) o ≡ some u → Gives cleanTurn u
     go none e n = absurd (Option·some-ne-none u (sym n))
     go (some a) e n =
         let same : evict a w ≡ u = cc in
-        subst (λ (v : Work). Sound (v .cache) × Gives cleanTurn v) same
-        (sound-remove a (w .cache) k, (rw (free-removed isClean a (w .cache .rows) (nearest-passes (cleanAt (w .cache .rows)) a (w .cache .recency) e))))
+        subst (Gives cleanTurn) same (rw (free-removed isClean a (w .cache .rows) (nearest-in (cleanAt (w .cache .rows)) a (w .cache .recency) e .1)))
 
 -- ---- making room
 
-tail-some : (l : List ℕ) (w : Work) → isSome (tailTurn l w) ≡ someAddress (λ a. true) l
+tail-some : (l : List ℕ) (w : Work) → isSome (lookAtTail l w) ≡ someAddress (λ a. true) l
 unfolding someAddress
 tail-some [] w = refl
 tail-some (a ∷ l) w = refl
@@ -137,14 +128,13 @@ room-free x w k n =
 
     clean : hasFree (w .cache .rows) || someAddress (cleanAt (w .cache .rows)) (w .cache .recency) ≡ true
         → hasFree (roomIn Lead x true w .cache .rows) ≡ true
-    clean g = free-while x cleanTurn clean-gives (clean-while x true w k) k (rw (nearest-some (cleanAt (w .cache .rows)) (w .cache .recency) w) g)
+    clean g = free-while x (clean-turns {may = false}) clean-gives (clean-while x true w k) k (rw (nearest-some (cleanAt (w .cache .rows)) (w .cache .recency) w) g)
 
     go : (m : Mode) → hasFree (w .cache .rows) || someAddress (mayEvict m (w .cache .rows)) (w .cache .recency) ≡ true
         → hasFree (roomIn m x true w .cache .rows) ≡ true
     go Alone g =
-        let n = length (w .cache .recency) + length (w .cache .recency) in
-        let v = evictTail n x true w in
-        free-moves (dirty-moves {sets = false} x (v .cache .recency) v (sound-listed v (moves-sound (tail-moves {sets = false} n x true w k) k)))
-        (free-while x (λ w. tailTurn (w .cache .recency) w) tail-gives (tail-while x true w k) k (rw (tail-some (w .cache .recency) w) g))
+        let v = evictBy tailTurn x true w in
+        free-moves (dirty-moves {sets = false} x (v .cache .recency) v (sound-listed v (moves-sound (turns-move (tail-turns {sets = false}) (2 * length (w .cache .rows)) x true w k) k)))
+        (free-while x tail-turns tail-gives (tail-while x true w k) k (rw (tail-some (w .cache .recency) w) g))
     go Lead g = clean g
     go Standby g = clean g

@@ -1,22 +1,22 @@
 -- Making room, sync and age-out as moves: an entry of the recency list is evicted if it is clean, or written if it is dirty; and, at a flash
 -- or an epoch's end, figures and idle counts change. What holds of each move and goes on to the next holds of every pass.
-use Prim.Native.Nat.{ℕ, zero, suc, _+_}
+use Prim.Native.Nat.{ℕ, zero, suc, _+_, _*_}
 use mathlib.Core.Path.{_≡_, refl, sym, ap, subst, _∙_}
 use mathlib.Core.Bool.{Bool, true, false, not}
-use mathlib.Core.Option.{Option, none, some, Option·map}
+use mathlib.Core.Option.{Option, none, some, Option·map, Option·some-ne-none}
 use mathlib.Core.List.{List, [], _∷_, _++_}
 use lib.Dec.{eqb}
-use lib.ListN.{length}
+use lib.ListN.{length, length-append}
 use borrow.Author.Tests.{eqb-true, eq-eqb, not-true, not-false}
 use Rattle.rules.specs.declared.entry.Entry.{Entry}
 use Rattle.rules.specs.declared.request.Mode.{Mode}
 use Rattle.rules.specs.declared.request.Mode.the-variants.{Alone, Lead, Standby}
-use Rattle.rules.specs.Addresses.{elem, strike, twice}
+use Rattle.rules.specs.Addresses.{elem, strike, twice, nearest}
 use Rattle.rules.specs.Allowed.{Sound}
 use Rattle.rules.specs.Cache.{Cache, Work, withRows, withMaximum, withCounters}
 use Rattle.rules.specs.Entries.{if_then_else_, isListed, isClean, cleaned}
 use Rattle.rules.specs.Resizing.{evictAged, expel, agedAt, older}
-use Rattle.rules.specs.Room.{evict, write, writeInPlace, lacking, cleanShareMet, lookAtTail, evictTail, evictClean, writeDirty, roomIn, makeRoom}
+use Rattle.rules.specs.Room.{evict, write, writeInPlace, lacking, cleanShareMet, lookAtTail, tailTurn, cleanTurn, orStay, turns, evictBy, writeDirty, roomIn, makeRoom}
 use Rattle.rules.specs.Rows.{get, passes, amend, amendAll, remove, cleanAt, dirtyAt}
 use Rattle.rules.proofs.Found.{get-remove, get-amend, get-amendAll, distinct-remove, distinct-amend, distinct-amendAll, pass-map, present}
 use Rattle.rules.proofs.Lists.{elem-append, elem-first, elem-rest, elem-strike, twice-strike, twice-last}
@@ -153,13 +153,15 @@ module _ {may sets : Bool} (a : ℕ) (l : List ℕ) (w : Work) (k : Listed (a �
       let p = found-listed (λ e. e .dirty) a l w k h in
       writes a (p .0) r y (p .1) (p .2) (p .3) s m
 
-pub clean-moves : {may sets : Bool} (x : ℕ) (row : Bool) (l : List ℕ) (w : Work) → Listed l w → Moves may sets w (evictClean x row l w)
-unfolding evictClean
-clean-moves x row [] w k = done
-clean-moves {may} {sets} x row (a ∷ l) w k =
-    choose (λ (v : Work). Moves may sets w (evictClean x row l v)) _
-    (λ h. evicts-one a l w k (both (lacking x row (w .cache)) (cleanAt (w .cache .rows) a) h .1) (clean-moves x row l (evict a w) (listed-evict a l w (listed-rest a l w k))))
-    (λ h. clean-moves x row l w (listed-rest a l w k))
+-- what is nearest is in the list, and passes
+pub nearest-in : (test : ℕ → Bool) (a : ℕ) (l : List ℕ) → nearest test l ≡ some a → (elem a l ≡ true) × (test a ≡ true)
+unfolding nearest
+nearest-in test a [] h = absurd (Option·some-ne-none a (sym h))
+nearest-in test a (b ∷ l) h =
+    split (test b)
+    (λ p. let g : some b ≡ some a = simp p at h in let e : b ≡ a = cc in
+    (subst (λ (x : ℕ). elem x (b ∷ l) ≡ true) e (elem-first b l), subst (λ (x : ℕ). test x ≡ true) e p))
+    (λ p. let k = nearest-in test a l (simp p at h) in (elem-rest b a l (k .0), k .1))
 
 pub dirty-moves : {sets : Bool} (x : ℕ) (l : List ℕ) (w : Work) → Listed l w → Moves true sets w (writeDirty x l w)
 unfolding writeDirty
@@ -183,20 +185,57 @@ pub clean-of : (test : Entry → Bool) (o : Option Entry) → passes test o ≡ 
 clean-of test none p q = p
 clean-of test (some e) p q = rw q
 
-pub look-moves : {sets : Bool} (l : List ℕ) (w : Work) → w .cache .recency ≡ l → Sound (w .cache) → Moves true sets w (lookAtTail l w)
-look-moves [] w e k = done
-look-moves {sets} (a ∷ l) w e k =
-    let s : Listed (a ∷ l) w = subst (λ (r : List ℕ). Listed r w) e (sound-listed w k) in
-    choose (λ (v : Work). Moves true sets w v) (dirtyAt (w .cache .rows) a)
-    (λ h. writes-one a l w s (l ++ a ∷ []) refl (subst (SameList (l ++ a ∷ [])) (sym e) (turned a l)) h done)
-    (λ h. evicts-one a l w s (clean-of isListed (get (w .cache .rows) a) (sym (k .listed a) ∙ ap (elem a) e ∙ elem-first a l) h) done)
+-- ---- the turns of step 1
 
-pub tail-moves : {sets : Bool} (n x : ℕ) (row : Bool) (w : Work) → Sound (w .cache) → Moves true sets w (evictTail n x row w)
-unfolding evictTail
-tail-moves zero x row w k = done
-tail-moves {sets} (suc n) x row w k =
-    let m = choose (λ (v : Work). Moves true sets w v) (lacking x row (w .cache)) (λ h. look-moves (w .cache .recency) w refl k) (λ h. done) in
-    moves-trans m (tail-moves n x row _ (moves-sound m k))
+-- a turn is moves, with one order
+pub record OneTurn (may sets : Bool) (w u : Work) : Type 0 where
+  pub moves : Moves may sets w u
+  pub order : length (u .orders) ≡ length (w .orders) + 1
+
+abbrev pub Turning : Bool → Bool → (Work → Option Work) → Type 0
+Turning may sets turn = (w u : Work) → Sound (w .cache) → turn w ≡ some u → OneTurn may sets w u
+
+pub tail-turns : {sets : Bool} → Turning true sets tailTurn
+tail-turns {sets} w u k = go (w .cache .recency) refl
+  where
+    go : (l : List ℕ) → w .cache .recency ≡ l → lookAtTail l w ≡ some u → OneTurn true sets w u
+    go [] e n = absurd (Option·some-ne-none u (sym n))
+    go (a ∷ l) e n =
+        let s : Listed (a ∷ l) w = subst (λ (r : List ℕ). Listed r w) e (sound-listed w k) in
+        let same : (if dirtyAt (w .cache .rows) a then write a (l ++ a ∷ []) w else evict a w) ≡ u = cc in
+        subst (OneTurn true sets w) same
+        (choose (OneTurn true sets w) (dirtyAt (w .cache .rows) a)
+        (λ h. record { moves = writes-one a l w s (l ++ a ∷ []) refl (subst (SameList (l ++ a ∷ [])) (sym e) (turned a l)) h done; order = length-append (w .orders) _ })
+        (λ h. record {
+          moves = evicts-one a l w s (clean-of isListed (get (w .cache .rows) a) (sym (k .listed a) ∙ ap (elem a) e ∙ elem-first a l) h) done;
+          order = length-append (w .orders) _;
+        }))
+
+pub clean-turns : {may sets : Bool} → Turning may sets cleanTurn
+clean-turns {may} {sets} w u k = go (nearest (cleanAt (w .cache .rows)) (w .cache .recency)) refl
+  where
+    go : (o : Option ℕ) → nearest (cleanAt (w .cache .rows)) (w .cache .recency) ≡ o → Option·map (λ a. evict a w) o ≡ some u → OneTurn may sets w u
+    go none e n = absurd (Option·some-ne-none u (sym n))
+    go (some a) e n =
+        let i = nearest-in (cleanAt (w .cache .rows)) a (w .cache .recency) e in
+        let p = present isClean (get (w .cache .rows) a) (i .1) in
+        let same : evict a w ≡ u = cc in
+        subst (OneTurn may sets w) same
+        record {
+          moves = evicts a (p .0) (p .1) (sym (ap (passes isListed) (p .1)) ∙ sym (k .listed a) ∙ i .0) (not-true (p .0 .dirty) (p .2)) done;
+          order = length-append (w .orders) _;
+        }
+
+pub turns-move : {may sets : Bool} {turn : Work → Option Work} → Turning may sets turn → (n x : ℕ) (row : Bool) (w : Work) → Sound (w .cache) → Moves may sets w (turns n turn x row w)
+unfolding turns
+turns-move g zero x row w k = done
+turns-move {may} {sets} {turn} g (suc n) x row w k =
+    let m = choose (λ (v : Work). Moves may sets w v) (lacking x row (w .cache)) (λ h. go (turn w) refl) (λ h. done) in
+    moves-trans m (turns-move g n x row _ (moves-sound m k))
+  where
+    go : (o : Option Work) → turn w ≡ o → Moves may sets w (orStay o w)
+    go none e = done
+    go (some u) e = g w u k e .moves
 
 -- ---- making room
 
@@ -216,12 +255,11 @@ room-moves {sets} x row w k =
   where
     go : (m : Mode) → Moves (isAlone m) sets w (roomIn m x row w)
     go Alone =
-        let n = length (w .cache .recency) + length (w .cache .recency) in
-        let t = tail-moves n x row w k in
-        let v = evictTail n x row w in
+        let t = turns-move tail-turns (2 * length (w .cache .rows)) x row w k in
+        let v = evictBy tailTurn x row w in
         moves-trans t (dirty-moves x (v .cache .recency) v (sound-listed v (moves-sound t k)))
-    go Lead = clean-moves x row (w .cache .recency) w (sound-listed w k)
-    go Standby = clean-moves x row (w .cache .recency) w (sound-listed w k)
+    go Lead = turns-move clean-turns (2 * length (w .cache .rows)) x row w k
+    go Standby = turns-move clean-turns (2 * length (w .cache .rows)) x row w k
 
 pub room-after : {sets : Bool} {w v : Work} (x : ℕ) (row : Bool) → Sound (w .cache) → Moves (isAlone (w .cache .mode)) sets w v
     → Moves (isAlone (w .cache .mode)) sets w (makeRoom x row v)

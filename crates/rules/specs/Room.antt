@@ -1,13 +1,14 @@
 -- Making room for an incoming size x and, if one is wanted, a row; "for nothing" is size 0 and no row.
-use Prim.Native.Nat.{ℕ, zero, suc, _+_, _-_}
+use Prim.Native.Nat.{ℕ, zero, suc, _+_, _-_, _*_}
 use mathlib.Core.Bool.{Bool, not, _&&_, _||_}
+use mathlib.Core.Option.{Option, none, some, Option·map}
 use mathlib.Core.List.{List, [], _∷_, _++_}
 use lib.Dec.{leb, ltb}
 use lib.ListN.{length}
 use Rattle.rules.specs.declared.order.Kind.{Kind}
 use Rattle.rules.specs.declared.request.Mode.{Mode}
 use Rattle.rules.specs.declared.request.Mode.the-variants.{Alone, Lead, Standby}
-use Rattle.rules.specs.Addresses.{strike}
+use Rattle.rules.specs.Addresses.{strike, nearest}
 use Rattle.rules.specs.Cache.{Cache, Work, withRows, held, minimumClean, give}
 use Rattle.rules.specs.Entries.{if_then_else_, cleaned}
 use Rattle.rules.specs.Rows.{amend, remove, hasFree, cleanAt, dirtyAt, sizeAt}
@@ -57,21 +58,31 @@ overfull x c = ltb (c .maximum) (held c + x)
 abbrev pub lacking : ℕ → Bool → Cache → Bool
 lacking x row c = overfull x c || row && not (hasFree (c .rows))
 
--- Alone: a dirty tail is written and moved to the head; a clean tail is evicted.
-abbrev pub lookAtTail : List ℕ → Work → Work
-lookAtTail [] w = w
-lookAtTail (a ∷ rest) w = if dirtyAt (w .cache .rows) a then write a (rest ++ a ∷ []) w else evict a w
+-- Alone, a turn looks at the tail: a dirty one is written and moved to the head, a clean one evicted.
+abbrev pub lookAtTail : List ℕ → Work → Option Work
+lookAtTail [] w = none
+lookAtTail (a ∷ rest) w = some (if dirtyAt (w .cache .rows) a then write a (rest ++ a ∷ []) w else evict a w)
 
--- Alone, at most n turns: each entry comes to the tail at most twice, dirty and then clean.
-unfoldable pub evictTail : ℕ → ℕ → Bool → Work → Work
-evictTail zero x row w = w
-evictTail (suc n) x row w = evictTail n x row (if lacking x row (w .cache) then lookAtTail (w .cache .recency) w else w)
+abbrev pub tailTurn : Work → Option Work
+tailTurn w = lookAtTail (w .cache .recency) w
 
--- Lead and standby: while room is lacking, the clean entry nearest the tail is evicted.
-unfoldable pub evictClean : ℕ → Bool → List ℕ → Work → Work
-evictClean x row [] w = w
-evictClean x row (a ∷ rest) w =
-    evictClean x row rest (if lacking x row (w .cache) && cleanAt (w .cache .rows) a then evict a w else w)
+-- In lead and standby, a turn evicts the clean entry nearest the tail.
+abbrev pub cleanTurn : Work → Option Work
+cleanTurn w = Option·map (λ a. evict a w) (nearest (cleanAt (w .cache .rows)) (w .cache .recency))
+
+-- What a turn leaves; without one all stays.
+abbrev pub orStay : Option Work → Work → Work
+orStay none w = w
+orStay (some v) w = v
+
+-- At most n turns, while room is lacking.
+unfoldable pub turns : ℕ → (Work → Option Work) → ℕ → Bool → Work → Work
+turns zero turn x row w = w
+turns (suc n) turn x row w = turns n turn x row (if lacking x row (w .cache) then orStay (turn w) w else w)
+
+-- Each turn gives an order, and each entry two at most: a write and an evict.
+abbrev pub evictBy : (Work → Option Work) → ℕ → Bool → Work → Work
+evictBy turn x row w = turns (2 * length (w .cache .rows)) turn x row w
 
 -- ---- step 2, and sync
 
@@ -85,10 +96,10 @@ writeDirty x (a ∷ rest) w =
 
 unfoldable pub roomIn : Mode → ℕ → Bool → Work → Work
 roomIn Alone x row w =
-    let v = evictTail (length (w .cache .recency) + length (w .cache .recency)) x row w in
+    let v = evictBy tailTurn x row w in
     writeDirty x (v .cache .recency) v
-roomIn Lead x row w = evictClean x row (w .cache .recency) w
-roomIn Standby x row w = evictClean x row (w .cache .recency) w
+roomIn Lead x row w = evictBy cleanTurn x row w
+roomIn Standby x row w = evictBy cleanTurn x row w
 
 -- With evictions off: no effect.
 unfoldable pub makeRoom : ℕ → Bool → Work → Work
