@@ -45,6 +45,10 @@ fresh n m t s = record {
   count = 0;
 }
 
+-- The recency list as the rules read it, tail first.
+abbrev pub recencyList : Cache → List ℕ
+recencyList c = c .recency
+
 -- ---- one respect changed
 
 abbrev pub withRows : List Row → List ℕ → Cache → Cache

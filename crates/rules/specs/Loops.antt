@@ -3,7 +3,7 @@ use mathlib.Core.Path.{_≡_}
 use mathlib.Core.Bool.{Bool, true, false}
 use mathlib.Core.Option.{Option, none, some, Option·map}
 use Rattle.rules.specs.Addresses.{nearest}
-use Rattle.rules.specs.Cache.{Work}
+use Rattle.rules.specs.Cache.{Work, recencyList}
 use Rattle.rules.specs.Room.{writeInPlace}
 use Rattle.rules.specs.Rows.{dirtyAt}
 
@@ -15,4 +15,4 @@ pub data While (test : Work → Bool) (turn : Work → Option Work) : Work → W
 
 -- Step 2, and sync: the dirty entry nearest the tail is written and keeps its place.
 abbrev pub dirtyTurn : Work → Option Work
-dirtyTurn w = Option·map (λ a. writeInPlace a w) (nearest (dirtyAt (w .cache .rows)) (w .cache .recency))
+dirtyTurn w = Option·map (λ a. writeInPlace a w) (nearest (dirtyAt (w .cache .rows)) (recencyList (w .cache)))

@@ -15,7 +15,7 @@ use Rattle.rules.specs.declared.request.Mode.the-variants.{Alone, Lead, 
 use Rattle.rules.specs.declared.request.Request.{Request}
 use Rattle.rules.specs.declared.request.Request.the-variants.{Insert, Protect, Release, ReleaseChanged, Pin, Unpin, Resize, Discard, Flush, Sync, Take, Configure}
 use Rattle.rules.specs.Addresses.{elem, someAddress, twice}
-use Rattle.rules.specs.Cache.{Cache}
+use Rattle.rules.specs.Cache.{Cache, recencyList}
 use Rattle.rules.specs.Entries.{if_then_else_, isHeld, isRead, isWritten, forbids}
 use Rattle.rules.specs.Limits.{allOnes, mostSize}
 use Rattle.rules.specs.Rows.{get, passes, isHere, cleanAt, dirtyAt, hasFree, someEntry}
@@ -77,7 +77,7 @@ mayEvict Standby rows a = cleanAt rows a
 
 -- 11: a row is wanted, none is free, and no entry may be evicted.
 abbrev pub noRow : Cache → Bool
-noRow c = not (hasFree (c .rows)) && not (c .settings .evictions && someAddress (mayEvict (c .mode) (c .rows)) (c .recency))
+noRow c = not (hasFree (c .rows)) && not (c .settings .evictions && someAddress (mayEvict (c .mode) (c .rows)) (recencyList c))
 
 -- 12
 abbrev pub badField : ℕ → Bool

@@ -16,7 +16,7 @@ use Rattle.rules.specs.declared.request.Access.{Access}
 use Rattle.rules.specs.declared.request.Request.{Request}
 use Rattle.rules.specs.declared.request.Request.the-variants.{Insert, Protect, Release, ReleaseChanged, Pin, Unpin, Resize, Discard, Flush, Sync, Take, Configure}
 use Rattle.rules.specs.Addresses.{strike}
-use Rattle.rules.specs.Cache.{Cache, Work, start, give, withRows, withSettings, withMaximum, withCount, amendAt, touch, restart}
+use Rattle.rules.specs.Cache.{Cache, Work, recencyList, start, give, withRows, withSettings, withMaximum, withCount, amendAt, touch, restart}
 use Rattle.rules.specs.Entries.{if_then_else_, isHeld, cleaned, changedTo, withPin, protectedFor, released, newEntry, joined}
 use Rattle.rules.specs.Limits.{countStop}
 use Rattle.rules.specs.Refusals.{Call, refusalOf}
@@ -101,7 +101,7 @@ effect c list Flush =
     let dirty = dirtyRising (c .rows) in
     record { cache = cleanEach dirty c; orders = writesOf (c .rows) dirty }
 effect c list Sync =
-    let w = writeDirty 0 (c .recency) (start c) in
+    let w = writeDirty 0 (recencyList c) (start c) in
     record { cache = withCount 0 (w .cache); orders = w .orders }
 effect c list Take = start (cleanEach list c)
 effect c list (Configure s) = makeRoom 0 false (start (configured s c))

@@ -18,7 +18,7 @@ use Rattle.settings.specs.Validation.{increases, decreases}
 use Rattle.rules.specs.declared.entry.Entry.{Entry}
 use Rattle.rules.specs.declared.request.Mode.{Mode}
 use Rattle.rules.specs.declared.request.Mode.the-variants.{Alone, Lead, Standby}
-use Rattle.rules.specs.Cache.{Cache, Work, withRows, withMaximum, withCounters, restart, held}
+use Rattle.rules.specs.Cache.{Cache, Work, recencyList, withRows, withMaximum, withCounters, restart, held}
 use Rattle.rules.specs.Entries.{if_then_else_, withIdle}
 use Rattle.rules.specs.Limits.{mostIdle}
 use Rattle.rules.specs.Room.{evict, writeInPlace, makeRoom}
@@ -111,7 +111,7 @@ evictAged epochs (a ∷ rest) w =
 -- Age-out; the target is held / (1 - reserve), and no reduction if reserve is 1.
 unfoldable pub ageOut : ℕ → Float → Work → Work
 ageOut epochs reserve w =
-    let v = evictAged epochs (w .cache .recency) w in
+    let v = evictAged epochs (recencyList (w .cache)) w in
     if eq reserve (decimal 1 1) then v else lower (reserveQuotient (held (v .cache)) reserve) v
 
 abbrev pub decreasedBy : Decrease → Float → Work → Work

@@ -9,7 +9,7 @@ use Rattle.rules.specs.declared.order.Kind.{Kind}
 use Rattle.rules.specs.declared.request.Mode.{Mode}
 use Rattle.rules.specs.declared.request.Mode.the-variants.{Alone, Lead, Standby}
 use Rattle.rules.specs.Addresses.{strike, nearest}
-use Rattle.rules.specs.Cache.{Cache, Work, withRows, held, minimumClean, give}
+use Rattle.rules.specs.Cache.{Cache, Work, recencyList, withRows, held, minimumClean, give}
 use Rattle.rules.specs.Entries.{if_then_else_, cleaned}
 use Rattle.rules.specs.Rows.{amend, remove, hasFree, cleanAt, dirtyAt, sizeAt}
 use Rattle.rules.specs.declared.entry.Row.{Row}
@@ -27,7 +27,7 @@ unusedBytes x c = c .maximum - (held c + x)
 
 -- Clean bytes in the recency list plus unused bytes is at least the minimum clean bytes.
 abbrev pub cleanShareMet : ℕ → Cache → Bool
-cleanShareMet x c = leb (minimumClean c) (cleanBytes (c .rows) (c .recency) + unusedBytes x c)
+cleanShareMet x c = leb (minimumClean c) (cleanBytes (c .rows) (recencyList c) + unusedBytes x c)
 
 -- ---- the orders
 
@@ -64,11 +64,11 @@ lookAtTail [] w = none
 lookAtTail (a ∷ rest) w = some (if dirtyAt (w .cache .rows) a then write a (rest ++ a ∷ []) w else evict a w)
 
 abbrev pub tailTurn : Work → Option Work
-tailTurn w = lookAtTail (w .cache .recency) w
+tailTurn w = lookAtTail (recencyList (w .cache)) w
 
 -- In lead and standby, a turn evicts the clean entry nearest the tail.
 abbrev pub cleanTurn : Work → Option Work
-cleanTurn w = Option·map (λ a. evict a w) (nearest (cleanAt (w .cache .rows)) (w .cache .recency))
+cleanTurn w = Option·map (λ a. evict a w) (nearest (cleanAt (w .cache .rows)) (recencyList (w .cache)))
 
 -- What a turn leaves; without one all stays.
 abbrev pub orStay : Option Work → Work → Work
@@ -97,7 +97,7 @@ writeDirty x (a ∷ rest) w =
 unfoldable pub roomIn : Mode → ℕ → Bool → Work → Work
 roomIn Alone x row w =
     let v = evictBy tailTurn x row w in
-    writeDirty x (v .cache .recency) v
+    writeDirty x (recencyList (v .cache)) v
 roomIn Lead x row w = evictBy cleanTurn x row w
 roomIn Standby x row w = evictBy cleanTurn x row w
 
