@@ -2,6 +2,7 @@
 use Prim.Native.Nat.{ℕ, zero, suc, _+_}
 use mathlib.Core.Path.{_≡_, refl, ap, _∙_}
 use mathlib.Core.Bool.{Bool, true, false, not, _&&_}
+use mathlib.Core.Option.{Option, none, some, Option·map}
 use mathlib.Core.List.{List, [], _∷_, _++_, append-assoc}
 use lib.Dec.{ltb, leb}
 use lib.Ieee.{Float, lt, eq}
@@ -12,10 +13,11 @@ use Rattle.rules.specs.declared.order.Order.{Order}
 use Rattle.rules.specs.declared.request.Mode.{Mode}
 use Rattle.rules.specs.declared.request.Mode.the-variants.{Alone, Lead, Standby}
 use Rattle.room.specs.After.{after}
+use Rattle.rules.specs.Addresses.{nearest}
 use Rattle.rules.specs.Cache.{Work, withMaximum}
 use Rattle.rules.specs.Entries.{if_then_else_}
 use Rattle.rules.specs.Resizing.{evictAged, expel, agedAt, lower, increasedIn, ageOut, decreasedBy, resized, aged, endEpoch, counts, countAccess, counted, endIfDue}
-use Rattle.rules.specs.Room.{evict, write, writeInPlace, lacking, cleanShareMet, lookAtTail, evictTail, evictClean, writeDirty, roomIn, makeRoom}
+use Rattle.rules.specs.Room.{evict, write, writeInPlace, lacking, cleanShareMet, lookAtTail, tailTurn, cleanTurn, orStay, turns, writeDirty, roomIn, makeRoom}
 use Rattle.rules.specs.Rows.{cleanAt, dirtyAt}
 
 module _ (before : List Order) where
@@ -33,36 +35,49 @@ module _ (before : List Order) where
   chosen true u v p q = p
   chosen false u v p q = q
 
-  clean-carries : (x : ℕ) (row : Bool) (l : List ℕ) (w : Work) → evictClean x row l (after before w) ≡ after before (evictClean x row l w)
-  unfolding evictClean
-  clean-carries x row [] w = refl
-  clean-carries x row (a ∷ l) w =
-      ap (evictClean x row l) (chosen (lacking x row (w .cache) && cleanAt (w .cache .rows) a) (evict a w) w (evict-carries a w) refl) ∙ clean-carries x row l _
-
   pub dirty-carries : (x : ℕ) (l : List ℕ) (w : Work) → writeDirty x l (after before w) ≡ after before (writeDirty x l w)
   unfolding writeDirty
   dirty-carries x [] w = refl
   dirty-carries x (a ∷ l) w =
       ap (writeDirty x l) (chosen (not (cleanShareMet x (w .cache)) && dirtyAt (w .cache .rows) a) (writeInPlace a w) w (write-carries a (w .cache .recency) w) refl) ∙ dirty-carries x l _
 
-  look-carries : (l : List ℕ) (w : Work) → lookAtTail l (after before w) ≡ after before (lookAtTail l w)
-  look-carries [] w = refl
-  look-carries (a ∷ l) w = chosen (dirtyAt (w .cache .rows) a) (write a (l ++ a ∷ []) w) (evict a w) (write-carries a (l ++ a ∷ []) w) (evict-carries a w)
+  -- a turn of step 1 does not look at the orders before it
+  abbrev Carries : (Work → Option Work) → Type 0
+  Carries turn = (w : Work) → turn (after before w) ≡ Option·map (after before) (turn w)
 
-  tail-carries : (n x : ℕ) (row : Bool) (w : Work) → evictTail n x row (after before w) ≡ after before (evictTail n x row w)
-  unfolding evictTail
-  tail-carries zero x row w = refl
-  tail-carries (suc n) x row w =
-      ap (evictTail n x row) (chosen (lacking x row (w .cache)) (lookAtTail (w .cache .recency) w) w (look-carries (w .cache .recency) w) refl) ∙ tail-carries n x row _
+  tail-carries : Carries tailTurn
+  tail-carries w = go (w .cache .recency)
+    where
+      go : (l : List ℕ) → lookAtTail l (after before w) ≡ Option·map (after before) (lookAtTail l w)
+      go [] = refl
+      go (a ∷ l) = ap some (chosen (dirtyAt (w .cache .rows) a) (write a (l ++ a ∷ []) w) (evict a w) (write-carries a (l ++ a ∷ []) w) (evict-carries a w))
+
+  clean-carries : Carries cleanTurn
+  clean-carries w = go (nearest (cleanAt (w .cache .rows)) (w .cache .recency))
+    where
+      go : (o : Option ℕ) → Option·map (λ a. evict a (after before w)) o ≡ Option·map (after before) (Option·map (λ a. evict a w) o)
+      go none = refl
+      go (some a) = ap some (evict-carries a w)
+
+  stay-carries : (o : Option Work) (w : Work) → orStay (Option·map (after before) o) (after before w) ≡ after before (orStay o w)
+  stay-carries none w = refl
+  stay-carries (some u) w = refl
+
+  turns-carry : (turn : Work → Option Work) → Carries turn → (n x : ℕ) (row : Bool) (w : Work) → turns n turn x row (after before w) ≡ after before (turns n turn x row w)
+  unfolding turns
+  turns-carry turn h zero x row w = refl
+  turns-carry turn h (suc n) x row w =
+      ap (turns n turn x row) (chosen (lacking x row (w .cache)) (orStay (turn w) w) w (ap (λ (o : Option Work). orStay o (after before w)) (h w) ∙ stay-carries (turn w) w) refl)
+      ∙ turns-carry turn h n x row _
 
   pub room-carries : (x : ℕ) (row : Bool) (w : Work) → makeRoom x row (after before w) ≡ after before (makeRoom x row w)
   unfolding makeRoom roomIn
   room-carries x row w = chosen (w .cache .settings .evictions) (roomIn (w .cache .mode) x row w) w (go (w .cache .mode)) refl
     where
       go : (m : Mode) → roomIn m x row (after before w) ≡ after before (roomIn m x row w)
-      go Alone = rw (tail-carries _ x row w) (dirty-carries x _ _)
-      go Lead = clean-carries x row (w .cache .recency) w
-      go Standby = clean-carries x row (w .cache .recency) w
+      go Alone = rw (turns-carry tailTurn tail-carries _ x row w) (dirty-carries x _ _)
+      go Lead = turns-carry cleanTurn clean-carries _ x row w
+      go Standby = turns-carry cleanTurn clean-carries _ x row w
 
   expel-carries : (m : Mode) (a : ℕ) (w : Work) → expel m a (after before w) ≡ after before (expel m a w)
   expel-carries Alone a w =

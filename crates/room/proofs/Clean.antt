@@ -1,42 +1,69 @@
--- The first step of lead and standby from a place of the list on, an entry at a time.
-use Prim.Native.Nat.{ℕ, suc, _<_}
-use mathlib.Core.Bool.{Bool, true, false, _&&_}
+-- The clean entry nearest the tail, where none stands before a place of the list.
+use Prim.Native.Nat.{ℕ, zero, suc, _<_, _≤_}
+use mathlib.Core.Bool.{Bool, true, false}
 use mathlib.Core.List.{List, [], _∷_}
-use mathlib.Core.Option.{Option, none, some}
-use mathlib.Core.Path.{_≡_, refl, ap, ap₂, _∙_}
-use lib.ListN.{length, getD, drop}
+use mathlib.Core.Option.{Option, none, some, Option·some-ne-none}
+use mathlib.Core.Path.{_≡_, refl, ap, _∙_}
+use native.Mathlib.Nat.{le-of-suc-le-suc}
+use native.Mathlib.Omega.{arith}
+use lib.Dec.{eqb}
+use lib.ListN.{length, getD, take, drop}
 use lib.Seq.{drop-cons}
-use Rattle.rules.proofs.Tests.{and-false}
-use Rattle.rules.specs.Cache.{Cache, Work}
-use Rattle.rules.specs.Entries.{if_then_else_, isClean}
-use Rattle.rules.specs.Room.{lacking, evict, evictClean}
-use Rattle.rules.specs.Rows.{get, passes, cleanAt, dirtyAt}
+use Rattle.rules.proofs.Found.{get-remove}
+use Rattle.rules.proofs.Tests.{split}
+use Rattle.rules.specs.Addresses.{nearest}
+use Rattle.rules.specs.Entries.{isClean}
+use Rattle.rules.specs.Rows.{passes, remove, cleanAt}
 use Rattle.rules.specs.declared.entry.Entry.{Entry}
-use Rattle.rules.specs.declared.order.Order.{Order}
-use Rattle.room.proofs.Kept.{work}
+use Rattle.rules.specs.declared.entry.Row.{Row}
+use Rattle.layout.proofs.Cuts.{cut}
 
-pub rests : (x : ℕ) (row : Bool) (l : List ℕ) (w : Work) → lacking x row (w .cache) ≡ false → evictClean x row l w ≡ w
-unfolding evictClean
-rests x row [] w h = refl
-rests x row (a ∷ l) w h = rw h (rests x row l w h)
-
-not-clean : (o : Option Entry) → passes (λ e. e .dirty) o ≡ true → passes isClean o ≡ false
+pub not-clean : (o : Option Entry) → passes (λ e. e .dirty) o ≡ true → passes isClean o ≡ false
 not-clean none d = refl
 not-clean (some e) d = rw d
 
-module _ (x : ℕ) (row : Bool) (c : Cache) (orders : List Order) (pos : ℕ) (low : pos < length (c .recency)) where
-  looks : (t : Bool) → lacking x row c && cleanAt (c .rows) (getD (c .recency) pos 0) ≡ t
-      → evictClean x row (drop pos (c .recency)) (work c orders)
-      ≡ evictClean x row (drop (suc pos) (c .recency)) (if t then evict (getD (c .recency) pos 0) (work c orders) else work c orders)
-  unfolding evictClean
-  looks t e =
-      rw (drop-cons (c .recency) pos 0 low)
-      (ap (λ (b : Bool). evictClean x row (drop (suc pos) (c .recency)) (if b then evict (getD (c .recency) pos 0) (work c orders) else work c orders)) e)
+module _ (test : ℕ → Bool) where
+  pub nearest-past : (pos : ℕ) (l : List ℕ) → nearest test (take pos l) ≡ none → nearest test l ≡ nearest test (drop pos l)
+  unfolding nearest
+  nearest-past zero l h = refl
+  nearest-past (suc pos) [] h = refl
+  nearest-past (suc pos) (a ∷ l) h =
+      split (test a) (λ p. absurd (Option·some-ne-none a (simp p at h))) (λ p. rw p (nearest-past pos l (simp p at h)))
 
-  pub skips : dirtyAt (c .rows) (getD (c .recency) pos 0) ≡ true
-      → evictClean x row (drop pos (c .recency)) (work c orders) ≡ evictClean x row (drop (suc pos) (c .recency)) (work c orders)
-  skips d = looks false (ap (λ (t : Bool). lacking x row c && t) (not-clean (get (c .rows) (getD (c .recency) pos 0)) d) ∙ and-false (lacking x row c))
+  -- the entry at the place passes
+  pub nearest-here : (pos : ℕ) (l : List ℕ) → pos < length l → nearest test (take pos l) ≡ none → test (getD l pos 0) ≡ true → nearest test l ≡ some (getD l pos 0)
+  unfolding nearest
+  nearest-here pos l low h p = nearest-past pos l h ∙ rw (drop-cons l pos 0 low, p) refl
 
-  pub evicts : lacking x row c ≡ true → cleanAt (c .rows) (getD (c .recency) pos 0) ≡ true
-      → evictClean x row (drop pos (c .recency)) (work c orders) ≡ evictClean x row (drop (suc pos) (c .recency)) (evict (getD (c .recency) pos 0) (work c orders))
-  evicts l h = looks true (ap₂ (λ (s t : Bool). s && t) l h)
+  -- no place is left
+  pub nearest-none : (pos : ℕ) (l : List ℕ) → length l ≤ pos → nearest test (take pos l) ≡ none → nearest test l ≡ none
+  unfolding nearest
+  nearest-none pos [] low h = refl
+  nearest-none zero (a ∷ l) low h = absurd (omega arith)
+  nearest-none (suc pos) (a ∷ l) low h =
+      split (test a) (λ p. absurd (Option·some-ne-none a (simp p at h))) (λ p. rw p (nearest-none pos l (le-of-suc-le-suc low) (simp p at h)))
+
+  -- one place more is passed
+  pub passed-more : (pos : ℕ) (l : List ℕ) → pos < length l → test (getD l pos 0) ≡ false → nearest test (take pos l) ≡ none → nearest test (take (suc pos) l) ≡ none
+  unfolding nearest
+  passed-more pos [] low p h = absurd (omega arith)
+  passed-more zero (a ∷ l) low p h = rw p
+  passed-more (suc pos) (a ∷ l) low p h =
+      split (test a) (λ q. absurd (Option·some-ne-none a (simp q at h))) (λ q. rw q (passed-more pos l (le-of-suc-le-suc low) p (simp q at h)))
+
+  fewer-pass : {some-pass : ℕ → Bool} → ((b : ℕ) → test b ≡ false → some-pass b ≡ false) → (l : List ℕ) → nearest test l ≡ none → nearest some-pass l ≡ none
+  unfolding nearest
+  fewer-pass f [] h = refl
+  fewer-pass f (a ∷ l) h = split (test a) (λ p. absurd (Option·some-ne-none a (simp p at h))) (λ p. rw (f a p) (fewer-pass f l (simp p at h)))
+
+take-cut : (pos : ℕ) (l : List ℕ) → take pos (cut pos l) ≡ take pos l
+unfolding cut
+take-cut zero l = refl
+take-cut (suc pos) [] = refl
+take-cut (suc pos) (x ∷ l) = ap (λ (y : List ℕ). x ∷ y) (take-cut pos l)
+
+-- an entry removed, and its place cut out
+pub passed-cut : (a pos : ℕ) (rows : List Row) (l : List ℕ) → nearest (cleanAt rows) (take pos l) ≡ none → nearest (cleanAt (remove a rows)) (take pos (cut pos l)) ≡ none
+passed-cut a pos rows l h =
+    rw (take-cut pos l)
+    (fewer-pass (cleanAt rows) (λ b p. rw (get-remove a b rows) (split (eqb a b) (λ q. simp q) (λ q. simp q p))) (take pos l) h)

@@ -1,16 +1,16 @@
 -- The two steps: what the first leaves lets the second begin, and both together are the rule.
-use Prim.Native.Nat.{ℕ, _+_}
+use Prim.Native.Nat.{ℕ, _*_}
 use mathlib.Core.Bool.{Bool, true, false, true≢false}
 use mathlib.Core.List.{List, append-nil}
 use mathlib.Core.Path.{_≡_, refl, sym, ap, subst, _∙_}
 use native.Mathlib.Omega.{arith}
 use lib.ListN.{length}
 use Rattle.rules.proofs.Moved.{Moved, moved}
-use Rattle.rules.proofs.Moves.{tail-moves}
+use Rattle.rules.proofs.Moves.{tail-turns, turns-move}
 use Rattle.rules.proofs.Tests.{choose, either}
 use Rattle.rules.specs.Refusals.{isAlone}
 use Rattle.rules.specs.Cache.{Cache, Work, start}
-use Rattle.rules.specs.Room.{evictClean, writeDirty, roomIn, makeRoom}
+use Rattle.rules.specs.Room.{cleanTurn, evictBy, writeDirty, roomIn, makeRoom}
 use Rattle.rules.specs.Rows.{heldBytes}
 use Rattle.rules.specs.declared.request.Mode.{Mode}
 use Rattle.rules.specs.declared.request.Mode.the-variants.{Alone, Lead, Standby}
@@ -34,7 +34,7 @@ module _ (x : ℕ) (row : Bool) (w : Work) where
   room-alone Lead h = absurd (true≢false (sym h))
   room-alone Standby h = absurd (true≢false (sym h))
 
-  room-other : (m : Mode) → isAlone m ≡ false → roomIn m x row w ≡ evictClean x row (w .cache .recency) w
+  room-other : (m : Mode) → isAlone m ≡ false → roomIn m x row w ≡ evictBy cleanTurn x row w
   unfolding roomIn
   room-other Alone h = absurd (true≢false h)
   room-other Lead h = refl
@@ -59,8 +59,7 @@ module _ {table lent table₁ words₁ : List ℕ} {rows before given : ℕ} {al
     first-moved : Moved (start (cacheIn table)) (evictIn true x row (cacheIn table))
     first-moved =
         let s = g .good .steady .sound in
-        let n = length (cacheIn table .recency) + length (cacheIn table .recency) in
-        moved (tail-moves {sets = false} n x row (start (cacheIn table)) s) s
+        moved (turns-move (tail-turns {sets = false}) (2 * length (cacheIn table .rows)) x row (start (cacheIn table)) s) s
 
     pub first-good : GoodRows table₁ rows
     first-good = good-rows (first .holds) (g .size ∙ sym (first-moved .kept .rows))

@@ -92,7 +92,7 @@ module _ {alone : Bool} {x : ℕ} {row : Bool} {c₀ : Cache} {rows before : ℕ
           figures = figures-write (k .figures) t (drop 1 (c .recency) ++ t ∷ []) (length-turned (c .recency) (omega arith));
           low = k .low;
           tail = k .tail;
-          to-do = to-do-turn x row c (k .orders) pos (evictIn alone x row c₀) q alone a l (at-tail a d) (k .to-do);
+          to-do = to-do-turn x row c (k .orders) pos (evictIn alone x row c₀) q alone a (k .tail a) l (at-tail a d) (k .to-do);
         }
 
     pub making-evict : dirtyAt (c .rows) (getD (c .recency) pos 0) ≡ false

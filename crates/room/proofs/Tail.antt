@@ -1,4 +1,4 @@
--- The first step alone is document 01's while loop: from where it stands, and a turn of it.
+-- The first step is document 01's while loop: from where it stands, and a turn of it alone.
 use Prim.Native.Nat.{ℕ, _<_}
 use mathlib.Core.Bool.{Bool, true, false}
 use mathlib.Core.List.{List, [], _∷_, _++_}
@@ -8,8 +8,8 @@ use native.Mathlib.Omega.{arith}
 use lib.ListN.{length, getD, drop, length-append, length-drop}
 use Rattle.rules.proofs.Tests.{either}
 use Rattle.rules.specs.Cache.{Work}
-use Rattle.rules.specs.Loops.{While, met, none-left, again, tailTurn}
-use Rattle.rules.specs.Room.{evict, write}
+use Rattle.rules.specs.Loops.{While, met, none-left, again}
+use Rattle.rules.specs.Room.{evict, write, lookAtTail}
 use Rattle.rules.specs.Rows.{dirtyAt}
 
 -- ---- a while loop from where it stands
@@ -33,15 +33,15 @@ module _ {on : Work → Bool} {turn : Work → Option Work} where
 -- ---- the tail
 
 pub turn-write : (l : List ℕ) (w : Work) → 0 < length l → dirtyAt (w .cache .rows) (getD l 0 0) ≡ true
-    → tailTurn l w ≡ some (write (getD l 0 0) (drop 1 l ++ getD l 0 0 ∷ []) w)
+    → lookAtTail l w ≡ some (write (getD l 0 0) (drop 1 l ++ getD l 0 0 ∷ []) w)
 turn-write [] w h d = absurd (omega arith)
 turn-write (a ∷ l) w h d = rw d
 
-pub turn-evict : (l : List ℕ) (w : Work) → 0 < length l → dirtyAt (w .cache .rows) (getD l 0 0) ≡ false → tailTurn l w ≡ some (evict (getD l 0 0) w)
+pub turn-evict : (l : List ℕ) (w : Work) → 0 < length l → dirtyAt (w .cache .rows) (getD l 0 0) ≡ false → lookAtTail l w ≡ some (evict (getD l 0 0) w)
 turn-evict [] w h d = absurd (omega arith)
 turn-evict (a ∷ l) w h d = rw d
 
-pub turn-none : (l : List ℕ) (w : Work) → length l ≡ 0 → tailTurn l w ≡ none
+pub turn-none : (l : List ℕ) (w : Work) → length l ≡ 0 → lookAtTail l w ≡ none
 turn-none [] w h = refl
 turn-none (a ∷ l) w h = absurd (omega arith)
 

@@ -1,10 +1,13 @@
 -- The first step of making room, alone and in the other modes.
-use Prim.Native.Nat.{ℕ, _+_}
+use Prim.Native.Nat.{ℕ}
 use mathlib.Core.Bool.{Bool, true, false}
-use lib.ListN.{length}
+use mathlib.Core.Option.{Option}
 use Rattle.rules.specs.Cache.{Cache, Work, start}
-use Rattle.rules.specs.Room.{evictTail, evictClean}
+use Rattle.rules.specs.Room.{tailTurn, cleanTurn, evictBy}
+
+abbrev pub turnIn : Bool → (Work → Option Work)
+turnIn true = tailTurn
+turnIn false = cleanTurn
 
 abbrev pub evictIn : Bool → ℕ → Bool → Cache → Work
-evictIn true x row c = evictTail (length (c .recency) + length (c .recency)) x row (start c)
-evictIn false x row c = evictClean x row (c .recency) (start c)
+evictIn alone x row c = evictBy (turnIn alone) x row (start c)
