@@ -10,13 +10,15 @@ ghost use Rattle.room.specs.Did.{Did};
 use room::write_dirty;
 use table::header::row_count;
 use table::header::set_count;
+use table::sums::held_bytes;
 
 pub fn sync(table: &mut [u64], orders: &mut [u64]) -> usize
     requires { ⌜ Unrefused (now table) (asking Sync [] (length (now orders))) ⌝ }
     ensures { λ r. ⌜ Did (effect (cacheIn (now (table .entry))) [] Sync) (restIn (now (table .entry))) (now (table .exit)) 0 (now (orders .entry)) (now (orders .exit)) r ⌝ }
 {
     let rows = row_count(table);
-    let given = write_dirty(table, orders, rows, 0, 0);
+    let held = held_bytes(table, rows);
+    let given = write_dirty(table, orders, rows, 0, held, 0);
     set_count(table, 0);
     given
 }

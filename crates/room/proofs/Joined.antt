@@ -11,6 +11,7 @@ use Rattle.rules.proofs.Tests.{choose, either}
 use Rattle.rules.specs.Refusals.{isAlone}
 use Rattle.rules.specs.Cache.{Cache, Work, start}
 use Rattle.rules.specs.Room.{evictClean, writeDirty, roomIn, makeRoom}
+use Rattle.rules.specs.Rows.{heldBytes}
 use Rattle.rules.specs.declared.request.Mode.{Mode}
 use Rattle.rules.specs.declared.request.Mode.the-variants.{Alone, Lead, Standby}
 use Rattle.layout.proofs.Held.{holds-cache, holds-rest}
@@ -22,8 +23,9 @@ use Rattle.room.proofs.After.{same-work, dirty-carries}
 use Rattle.room.proofs.Kept.{did-start}
 use Rattle.room.proofs.Orders.{did-then}
 use Rattle.room.specs.After.{after}
-use Rattle.room.specs.Did.{Did, Fits}
+use Rattle.room.specs.Did.{Did, Fits, Stopped}
 use Rattle.room.specs.First.{evictIn}
+use Rattle.room.specs.declared.pass.Evicted.{Evicted}
 
 -- the mode's rule, by whether the mode may write
 module _ (x : ℕ) (row : Bool) (w : Work) where
@@ -37,6 +39,11 @@ module _ (x : ℕ) (row : Bool) (w : Work) where
   room-other Alone h = absurd (true≢false h)
   room-other Lead h = refl
   room-other Standby h = refl
+
+-- the held bytes that the first step leaves are those of the table
+pub held-left : {x : ℕ} {row : Bool} {w : Work} {rest table lent words : List ℕ} {before : ℕ} {r : Evicted}
+    → Stopped x row w rest table before lent words r → r .held ≡ heldBytes (cacheIn table .rows)
+held-left s = s .held ∙ ap (λ (c : Cache). heldBytes (c .rows)) (sym (holds-cache (s .did .holds)))
 
 module _ {table lent table₁ words₁ : List ℕ} {rows before given : ℕ} {alone : Bool} (x : ℕ) (row : Bool) (g : GoodRows table rows)
     (d : Did (evictIn alone x row (cacheIn table)) (restIn table) table₁ before lent words₁ given) where

@@ -111,14 +111,15 @@ module _ {alone : Bool} {x : ℕ} {row : Bool} {c₀ : Cache} {rows before : ℕ
         }
 
   ends : (stop : Stop) → stop ≡ stopOf x row (work c (k .orders)) → work c (k .orders) ≡ evictIn alone x row c₀
-      → Stopped x row (evictIn alone x row c₀) rest table before lent words (record { stop = stop; given = given })
+      → Stopped x row (evictIn alone x row c₀) rest table before lent words (record { stop = stop; held = held; given = given })
   ends stop s e =
-      subst (λ (w : Work). Stopped x row w rest table before lent words (record { stop = stop; given = given })) e (record { did = k .kept .did; stop = s })
+      subst (λ (w : Work). Stopped x row w rest table before lent words (record { stop = stop; held = held; given = given })) e
+      (record { did = k .kept .did; stop = s; held = k .figures .held-is })
 
-  pub making-enough : lacking x row c ≡ false → Stopped x row (evictIn alone x row c₀) rest table before lent words (record { stop = Enough; given = given })
+  pub making-enough : lacking x row c ≡ false → Stopped x row (evictIn alone x row c₀) rest table before lent words (record { stop = Enough; held = held; given = given })
   making-enough l = ends Enough (rw l) (to-do-enough x row c (k .orders) pos (evictIn alone x row c₀) alone l (k .to-do))
 
-  pub making-nothing : lacking x row c ≡ true → listed ≤ pos → Stopped x row (evictIn alone x row c₀) rest table before lent words (record { stop = NothingLeft; given = given })
+  pub making-nothing : lacking x row c ≡ true → listed ≤ pos → Stopped x row (evictIn alone x row c₀) rest table before lent words (record { stop = NothingLeft; held = held; given = given })
   making-nothing l h =
       let e = k .figures .listed-is in
       ends NothingLeft (rw l) (to-do-nothing x row c (k .orders) pos (evictIn alone x row c₀) alone (k .tail) (omega arith) (k .to-do))

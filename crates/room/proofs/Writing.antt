@@ -19,7 +19,6 @@ use Rattle.rules.proofs.Totals.{total-same}
 use Rattle.rules.specs.Addresses.{elem, twice}
 use Rattle.rules.specs.Cache.{Cache, Work, start, give, minimumClean, amendAt}
 use Rattle.rules.specs.Entries.{if_then_else_, isClean, cleaned}
-use Rattle.rules.specs.Limits.{mostSize}
 use Rattle.rules.specs.Room.{cleanBytes, unusedBytes, cleanShareMet, writeInPlace, writeDirty}
 use Rattle.rules.specs.Rows.{get, passes, amend, heldBytes, dirtyAt, sizeAt}
 use Rattle.rules.specs.declared.entry.Entry.{Entry}
@@ -31,8 +30,10 @@ use Rattle.layout.proofs.Held.{holds-cache}
 use Rattle.layout.specs.Holds.{Good}
 use Rattle.layout.specs.Picture.{cacheIn, restIn}
 use Rattle.table.specs.Asked.{GoodRows}
+use Rattle.table.specs.Told.{cleanSize}
 use Rattle.room.proofs.Kept.{Gave, work, did-start, Kept, kept-start, kept-gives, kept-told, left-write}
 use Rattle.room.specs.Did.{Did, Fits}
+use Rattle.room.specs.Missing.{wantedBytes, missingBytes}
 
 -- ---- the clean bytes
 
@@ -96,80 +97,77 @@ module _ (x : ℕ) (c : Cache) (orders : List Order) (pos : ℕ) (low : pos < le
       → writeDirty x (drop pos (c .recency)) (work c orders) ≡ writeDirty x (drop (suc pos) (c .recency)) (writeInPlace (getD (c .recency) pos 0) (work c orders))
   writes m d = looks true (ap₂ (λ (s t : Bool). not s && t) m d)
 
--- ---- the clean bytes wanted, as the code finds them
+-- ---- the clean bytes wanted and missing, as the code finds them
 
 pub wanted-found : (c : Cache) (x maximum held : ℕ) (s : Settings) {unused least r : ℕ} → maximum ≡ c .maximum → s ≡ c .settings → held ≡ heldBytes (c .rows)
-    → unused ≡ maximum - (held + x) → least ≡ sizeProduct maximum (s .clean) → r ≡ least - unused → r ≡ minimumClean c - unusedBytes x c
+    → unused ≡ maximum - (held + x) → least ≡ sizeProduct maximum (s .clean) → r ≡ least - unused → r ≡ wantedBytes x c
 wanted-found c x maximum held s m t h u l r = r ∙ ap₂ (λ (p q : ℕ). p - q) (l ∙ ap₂ (λ (n : ℕ) (z : Settings). sizeProduct n (z .clean)) m t) (u ∙ ap₂ (λ (n k : ℕ). n - (k + x)) m h)
+
+-- the entry at a place, dirty or clean
+module _ (rows : List Row) (a : ℕ) (e : Entry) (r : get rows a ≡ some e) (bytes : ℕ) where
+  pub less-dirty : e .dirty ≡ true → bytes ≡ bytes - cleanSize rows a
+  less-dirty d = rw (r, d) (omega arith)
+
+  pub less-size : e .dirty ≡ false → bytes - e .size ≡ bytes - cleanSize rows a
+  less-size d = rw (r, d)
 
 -- ---- what the loop keeps
 
-pub record Writing (x : ℕ) (c₀ : Cache) (rows before : ℕ) (rest lent : List ℕ) (wanted listed : ℕ) (table words : List ℕ) (clean pos given : ℕ) (c : Cache) : Type 0 where
+pub record Writing (x : ℕ) (c₀ : Cache) (rows before : ℕ) (rest lent : List ℕ) (listed : ℕ) (table words : List ℕ) (missing pos given : ℕ) (c : Cache) : Type 0 where
   pub orders : List Order
   pub kept : Kept rows before rest lent table words given c orders
-  pub wanted-is : wanted ≡ minimumClean c - unusedBytes x c
-  pub clean-is : clean ≡ cleanBytes (c .rows) (c .recency)
+  pub missing-is : missing ≡ missingBytes x c
   pub listed-is : listed ≡ length (c .recency)
   pub low : pos ≤ listed
   pub to-do : writeDirty x (drop pos (c .recency)) (work c orders) ≡ writeDirty x (c₀ .recency) (start c₀)
 
-pub writing-start : {rows before : ℕ} {table lent : List ℕ} {x wanted clean listed : ℕ} → GoodRows table rows → Fits (cacheIn table) before lent
-    → wanted ≡ minimumClean (cacheIn table) - unusedBytes x (cacheIn table) → clean ≡ cleanBytes (cacheIn table .rows) (cacheIn table .recency)
-    → listed ≡ length (cacheIn table .recency)
-    → Writing x (cacheIn table) rows before (restIn table) lent wanted listed table lent clean 0 before (cacheIn table)
-writing-start g f w b l = record { orders = []; kept = kept-start g f; wanted-is = w; clean-is = b; listed-is = l; low = omega arith; to-do = refl }
+pub writing-start : {rows before : ℕ} {table lent : List ℕ} {x missing listed : ℕ} → GoodRows table rows → Fits (cacheIn table) before lent
+    → missing ≡ missingBytes x (cacheIn table) → listed ≡ length (cacheIn table .recency)
+    → Writing x (cacheIn table) rows before (restIn table) lent listed table lent missing 0 before (cacheIn table)
+writing-start g f m l = record { orders = []; kept = kept-start g f; missing-is = m; listed-is = l; low = omega arith; to-do = refl }
 
-module _ {x : ℕ} {c₀ : Cache} {rows before : ℕ} {rest lent : List ℕ} {wanted listed : ℕ} {table words : List ℕ} {clean pos given : ℕ} {c : Cache}
-    (k : Writing x c₀ rows before rest lent wanted listed table words clean pos given c) where
-  share-met : wanted ≤ clean → cleanShareMet x c ≡ true
-  share-met h = let w = k .wanted-is in let b = k .clean-is in le-leb (minimumClean c) (cleanBytes (c .rows) (c .recency) + unusedBytes x c) (omega arith)
+module _ {x : ℕ} {c₀ : Cache} {rows before : ℕ} {rest lent : List ℕ} {listed : ℕ} {table words : List ℕ} {missing pos given : ℕ} {c : Cache}
+    (k : Writing x c₀ rows before rest lent listed table words missing pos given c) where
+  share-met : missing ≡ 0 → cleanShareMet x c ≡ true
+  share-met h = let m = k .missing-is in le-leb (minimumClean c) (cleanBytes (c .rows) (c .recency) + unusedBytes x c) (omega arith)
 
-  share-missed : clean < wanted → cleanShareMet x c ≡ false
-  share-missed h = let w = k .wanted-is in let b = k .clean-is in lt-leb (minimumClean c) (cleanBytes (c .rows) (c .recency) + unusedBytes x c) (omega arith)
+  share-missed : (missing ≡ 0 → ⊥) → cleanShareMet x c ≡ false
+  share-missed h = let m = k .missing-is in lt-leb (minimumClean c) (cleanBytes (c .rows) (c .recency) + unusedBytes x c) (omega arith)
 
-  within : pos < listed → pos < length (c .recency)
+  pub within : pos < listed → pos < length (c .recency)
   within p = let e = k .listed-is in omega arith
 
-  pub writing-skip : pos < listed → dirtyAt (c .rows) (getD (c .recency) pos 0) ≡ false → Writing x c₀ rows before rest lent wanted listed table words clean (pos + 1) given c
+  pub writing-skip : pos < listed → dirtyAt (c .rows) (getD (c .recency) pos 0) ≡ false → Writing x c₀ rows before rest lent listed table words missing (pos + 1) given c
   writing-skip p d = record {
     orders = k .orders;
     kept = k .kept;
-    wanted-is = k .wanted-is;
-    clean-is = k .clean-is;
+    missing-is = k .missing-is;
     listed-is = k .listed-is;
     low = omega arith;
     to-do = rw (add-one pos) (sym (skips x c (k .orders) pos (within p) d) ∙ k .to-do);
   }
 
-  pub writing-write : {table′ words′ : List ℕ} {answer : ℕ} → pos < listed → clean < wanted → dirtyAt (c .rows) (getD (c .recency) pos 0) ≡ true
+  pub writing-write : {table′ words′ : List ℕ} {answer : ℕ} → pos < listed → (missing ≡ 0 → ⊥) → dirtyAt (c .rows) (getD (c .recency) pos 0) ≡ true
       → Gave Kind.Write (getD (c .recency) pos 0) c (amendAt (getD (c .recency) pos 0) cleaned c) (restIn table) table′ given words words′ answer
-      → Writing x c₀ rows before rest lent wanted listed table′ words′ (clean + answer) (pos + 1) (given + 1) (amendAt (getD (c .recency) pos 0) cleaned c)
+      → Writing x c₀ rows before rest lent listed table′ words′ (missing - answer) (pos + 1) (given + 1) (amendAt (getD (c .recency) pos 0) cleaned c)
   writing-write p m d g =
       let s = k .kept .did .holds .steady .sound in
       let q = within p in
       record {
         orders = give Kind.Write (getD (c .recency) pos 0) (sizeAt (c .rows) (getD (c .recency) pos 0)) (k .orders);
         kept = kept-gives (k .kept) (kept-told (k .kept) g) (length-amend (getD (c .recency) pos 0) cleaned (c .rows)) (left-write c s pos q (c .recency) d);
-        wanted-is = rw (total-same (λ e. e .size) (getD (c .recency) pos 0) cleaned (λ e. refl) (c .rows)) (k .wanted-is);
-        clean-is = let e = k .clean-is in let z = g .size in
-            omega (arith, clean-raised (getD (c .recency) pos 0) (c .rows) (c .recency) (s .once) (elem-at pos (c .recency) q) d);
+        missing-is = let e = k .missing-is in let z = g .size in
+            rw (total-same (λ e. e .size) (getD (c .recency) pos 0) cleaned (λ e. refl) (c .rows), clean-raised (getD (c .recency) pos 0) (c .rows) (c .recency) (s .once) (elem-at pos (c .recency) q) d)
+            (omega arith);
         listed-is = k .listed-is;
         low = omega arith;
         to-do = rw (add-one pos) (sym (writes x c (k .orders) pos q (share-missed m) d) ∙ k .to-do);
       }
 
-  -- the size of an entry that is written
-  pub size-most : pos < listed → sizeAt (c .rows) (getD (c .recency) pos 0) ≤ mostSize
-  size-most p = go (get (c .rows) (getD (c .recency) pos 0)) refl
-    where
-      go : (o : Option Entry) → get (c .rows) (getD (c .recency) pos 0) ≡ o → Option·getD (Option·map (λ e. e .size) o) 0 ≤ mostSize
-      go none e = omega arith
-      go (some y) e = k .kept .did .holds .steady .entries (getD (c .recency) pos 0) y e .size
-
   ends : writeDirty x (drop pos (c .recency)) (work c (k .orders)) ≡ work c (k .orders) → Did (writeDirty x (c₀ .recency) (start c₀)) rest table before lent words given
   ends e = subst (λ (w : Work). Did w rest table before lent words given) (sym e ∙ k .to-do) (k .kept .did)
 
-  pub writing-met : wanted ≤ clean → Did (writeDirty x (c₀ .recency) (start c₀)) rest table before lent words given
+  pub writing-met : missing ≡ 0 → Did (writeDirty x (c₀ .recency) (start c₀)) rest table before lent words given
   writing-met h = ends (rests x (drop pos (c .recency)) (work c (k .orders)) (share-met h))
 
   pub writing-end : listed ≤ pos → Did (writeDirty x (c₀ .recency) (start c₀)) rest table before lent words given
@@ -179,14 +177,14 @@ module _ {x : ℕ} {c₀ : Cache} {rows before : ℕ} {rest lent : List ℕ} {wa
       ends (ap (λ (r : List ℕ). writeDirty x r (work c (k .orders))) (drop-of-length-le (c .recency) m))
 
 -- a cache that a table holds is the one in it
-pub writing-in : {x : ℕ} {c₀ : Cache} {rows before : ℕ} {rest lent : List ℕ} {wanted listed : ℕ} {table words : List ℕ} {clean pos given : ℕ} {c : Cache}
-    → Writing x c₀ rows before rest lent wanted listed table words clean pos given c
-    → Writing x c₀ rows before rest lent wanted listed table words clean pos given (cacheIn table)
-writing-in {x} {c₀} {rows} {before} {rest} {lent} {wanted} {listed} {table} {words} {clean} {pos} {given} {c} k =
-    subst (λ (d : Cache). Writing x c₀ rows before rest lent wanted listed table words clean pos given d) (sym (holds-cache (k .kept .did .holds))) k
+pub writing-in : {x : ℕ} {c₀ : Cache} {rows before : ℕ} {rest lent : List ℕ} {listed : ℕ} {table words : List ℕ} {missing pos given : ℕ} {c : Cache}
+    → Writing x c₀ rows before rest lent listed table words missing pos given c
+    → Writing x c₀ rows before rest lent listed table words missing pos given (cacheIn table)
+writing-in {x} {c₀} {rows} {before} {rest} {lent} {listed} {table} {words} {missing} {pos} {given} {c} k =
+    subst (λ (d : Cache). Writing x c₀ rows before rest lent listed table words missing pos given d) (sym (holds-cache (k .kept .did .holds))) k
 
 -- nothing is wanted
-pub writing-none : {table lent : List ℕ} {wanted before : ℕ} (x : ℕ) → Good table → wanted ≡ minimumClean (cacheIn table) - unusedBytes x (cacheIn table) → wanted ≡ 0
+pub writing-none : {table lent : List ℕ} {wanted before : ℕ} (x : ℕ) → Good table → wanted ≡ wantedBytes x (cacheIn table) → wanted ≡ 0
     → Did (writeDirty x (cacheIn table .recency) (start (cacheIn table))) (restIn table) table before lent lent before
 writing-none {table} x g w z =
     rw (rests x (cacheIn table .recency) (start (cacheIn table)) (le-leb (minimumClean (cacheIn table)) (cleanBytes (cacheIn table .rows) (cacheIn table .recency) + unusedBytes x (cacheIn table)) (omega arith)))

@@ -8,10 +8,11 @@ use Rattle.rules.specs.declared.order.Order.{Order}
 use Rattle.rules.specs.Cache.{Cache, Work}
 use Rattle.rules.specs.Entries.{if_then_else_}
 use Rattle.rules.specs.Room.{lacking}
+use Rattle.rules.specs.Rows.{heldBytes}
 use Rattle.rules.proofs.Moved.{left}
 use Rattle.layout.specs.Holds.{Holds}
 use Rattle.layout.specs.Leaves.{putOrder}
-use Rattle.room.specs.declared.pass.Made.{Made}
+use Rattle.room.specs.declared.pass.Evicted.{Evicted}
 use Rattle.room.specs.declared.pass.Stop.{Stop}
 use Rattle.room.specs.declared.pass.Stop.the-variants.{Enough, NothingLeft}
 
@@ -34,7 +35,8 @@ Fits c before lent = (before + left c) * 3 ≤ length lent
 abbrev pub stopOf : ℕ → Bool → Work → Stop
 stopOf x row w = if lacking x row (w .cache) then NothingLeft else Enough
 
--- The same of a room-making loop, with what stopped it.
-pub record Stopped (x : ℕ) (row : Bool) (w : Work) (rest table : List ℕ) (before : ℕ) (lent words : List ℕ) (made : Made) : Type 0 where
-  pub did : Did w rest table before lent words (made .given)
-  pub stop : made .stop ≡ stopOf x row w
+-- The same of a room-making loop, with what stopped it and the held bytes that are left.
+pub record Stopped (x : ℕ) (row : Bool) (w : Work) (rest table : List ℕ) (before : ℕ) (lent words : List ℕ) (r : Evicted) : Type 0 where
+  pub did : Did w rest table before lent words (r .given)
+  pub stop : r .stop ≡ stopOf x row w
+  pub held : r .held ≡ heldBytes (w .cache .rows)

@@ -2,3 +2,4 @@ pub mod After
 pub mod Answered
 pub mod Did
 pub mod First
+pub mod Missing

@@ -3,7 +3,7 @@ mod pass;
 mod room;
 mod share;
 
-pub use pass::Made;
+pub use pass::Evicted;
 pub use pass::Stop;
 pub use room::make_room;
 pub use share::write_dirty;

@@ -22,8 +22,10 @@ pub enum Stop {
     NothingLeft,
 }
 
-pub struct Made {
+pub struct Evicted {
     pub stop: Stop,
+    // The held bytes that are left.
+    pub held: u64,
     // The number after the orders given.
     pub given: usize,
 }
@@ -45,7 +47,7 @@ pub fn evict_until(
     size: u64,
     row: bool,
     before: usize,
-) -> Made
+) -> Evicted
     requires { ⌜ GoodRows (now table) rows × (size ≤ mostSize) × Fits (cacheIn (now table)) before (now orders) ⌝ }
     ensures { λ r. ⌜ Stopped size row (evictIn alone size row (cacheIn (now (table .entry)))) (restIn (now (table .entry))) (now (table .exit)) before (now (orders .entry)) (now (orders .exit)) r ⌝ }
 {
@@ -74,5 +76,5 @@ pub fn evict_until(
             pos += 1;
         }
     };
-    Made { stop, given }
+    Evicted { stop, held, given }
 }

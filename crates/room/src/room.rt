@@ -27,12 +27,12 @@ fn room_in(
     requires { ⌜ GoodRows (now table) rows × (alone ≡ isAlone (cacheIn (now table) .mode)) × (size ≤ mostSize) × Fits (cacheIn (now table)) before (now orders) ⌝ }
     ensures { λ r. ⌜ Did (roomIn (cacheIn (now (table .entry)) .mode) size row (start (cacheIn (now (table .entry))))) (restIn (now (table .entry))) (now (table .exit)) before (now (orders .entry)) (now (orders .exit)) r ⌝ }
 {
-    let made = evict_until(table, orders, rows, alone, size, row, before);
-    let given = made.given;
+    let first = evict_until(table, orders, rows, alone, size, row, before);
+    let given = first.given;
     if !alone {
         return given;
     }
-    write_dirty(table, orders, rows, size, given)
+    write_dirty(table, orders, rows, size, first.held, given)
 }
 
 // Room for an incoming size and, if one is wanted, a row. The answer is the number after the orders.

@@ -16,10 +16,15 @@ use Rattle.lists.proofs.sync.sync.Tie as tie
 row-count-requires : tie.Need-row-count-requires
 row-count-requires c κs = search needs
 
+held-bytes-requires : tie.Need-held-bytes-requires
+held-bytes-requires c κs = record { good = c .before .before .before .before .before .pre .good; size = c .before .row-count .ensures }
+
 write-dirty-requires : tie.Need-write-dirty-requires
 write-dirty-requires c κs =
-    let s = c .before .before .before .before .before .before in
-    ((record { good = s .pre .good; size = c .before .before .row-count .ensures }), omega arith, words-fit (cacheIn (s .args .table .now)) (cacheIn (s .args .table .now)) (s .args .orders .now) (syncable (cacheIn (s .args .table .now)) (length (s .args .orders .now)) (s .pre .accepted)) refl)
+    let s = c .before .before .before .before .before .before .before .before in
+    let t = cacheIn (s .args .table .now) in
+    let f = words-fit t t (s .args .orders .now) (syncable t (length (s .args .orders .now)) (s .pre .accepted)) refl in
+    ((record { good = s .pre .good; size = c .before .before .before .before .row-count .ensures }), omega arith, c .before .before .held-bytes .ensures, f)
 
 set-count-requires : tie.Need-set-count-requires
 set-count-requires c κs = (holds-good (c .before .before .before .before .before .write-dirty .ensures .holds), omega arith)
@@ -39,6 +44,7 @@ sync-spec =
     tie.close
     (tie.spec
     row-count-requires
+    held-bytes-requires
     write-dirty-requires
     set-count-requires
     same-length

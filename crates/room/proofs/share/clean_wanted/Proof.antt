@@ -1,4 +1,5 @@
--- What is wanted of the maximum less the unused bytes, each as the callees find it.
+-- The maximum, the settings and the held bytes are the cache's own.
+use mathlib.Core.Path.{refl}
 use Rattle.layout.specs.Picture.{cacheIn}
 use Rattle.room.proofs.Kept.{held-fits}
 use Rattle.room.proofs.Writing.{wanted-found}
@@ -13,12 +14,10 @@ maximum-requires c κs = search needs
 settings-requires : tie.Need-settings-requires
 settings-requires c κs = search needs
 
-held-bytes-requires : tie.Need-held-bytes-requires
-held-bytes-requires c κs = search needs
-
 add-less : tie.Need-add-less
 add-less c =
-    omega (arith, held-fits (c .before .before .before .before .pre .0), c .held-bytes .ensures, c .before .before .before .before .pre .1)
+    let s = c .before .before .before in
+    omega (arith, held-fits (record { good = s .pre .0; size = refl }), s .pre .1, s .pre .2)
 
 less-requires : tie.Need-less-requires
 less-requires c κs = search needs
@@ -31,7 +30,8 @@ less-requires-2 c κs = search needs
 
 returns : tie.Need-returns
 returns c =
-    wanted-found (cacheIn (c .before .before .before .before .before .before .before .args .table .now)) (c .before .before .before .before .before .before .before .args .size) _ _ _ (c .before .before .before .before .before .maximum .ensures) (c .before .before .before .before .settings .ensures) (c .before .before .before .held-bytes .ensures) (c .before .before .less .ensures) (c .before .size-product .ensures) (c .less2 .ensures)
+    let s = c .before .before .before .before .before .before in
+    wanted-found (cacheIn (s .args .table .now)) (s .args .size) _ _ _ (c .before .before .before .before .maximum .ensures) (c .before .before .before .settings .ensures) (s .pre .2) (c .before .before .less .ensures) (c .before .size-product .ensures) (c .less2 .ensures)
 
 pub clean-wanted-spec : {M : Type 1} → statement M
 clean-wanted-spec =
@@ -39,7 +39,6 @@ clean-wanted-spec =
     (tie.spec
     maximum-requires
     settings-requires
-    held-bytes-requires
     add-less
     less-requires
     size-product-requires
