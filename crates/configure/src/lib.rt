@@ -45,5 +45,6 @@ pub fn configure(table: &mut [u64], orders: &mut [u64], s: Settings) -> usize
 {
     let rows = row_count(table);
     set_all(table, s);
-    make_room(table, orders, rows, 0, false, 0)
+    let made = make_room(table, orders, rows, 0, false, 0);
+    made.given
 }

@@ -38,7 +38,7 @@ pub fn insert(table: &mut [u64], orders: &mut [u64], address: u64, size: u64) ->
     ensures { λ r. ⌜ Did (effect (cacheIn (now (table .entry))) [] (Insert address size)) (restIn (now (table .entry))) (now (table .exit)) 0 (now (orders .entry)) (now (orders .exit)) r ⌝ }
 {
     let rows = row_count(table);
-    let given = admit(table, orders, rows, size);
+    let admitted = admit(table, orders, rows, size);
     add_dirty(table, rows, address, size);
-    given
+    admitted.given
 }

@@ -70,9 +70,10 @@ fn miss(
     requires { ⌜ GoodRows (now table) rows × Allowed (cacheIn (now table)) × (get (cacheIn (now table) .rows) address ≡ none) × (tooFewWords (cacheIn (now table)) (length (now orders)) ≡ false) × (badAddress address ≡ false) × (badSize size ≡ false) × (noRow (cacheIn (now table)) ≡ false) ⌝ }
     ensures { λ r. ⌜ Did (missed access address size (cacheIn (now (table .entry)))) (restIn (now (table .entry))) (now (table .exit)) 0 (now (orders .entry)) (now (orders .exit)) r ⌝ }
 {
-    let evicted = admit(table, orders, rows, size);
-    let loaded = load(table, orders, rows, access, address, size, evicted);
-    count_access(table, orders, rows, false, loaded)
+    let admitted = admit(table, orders, rows, size);
+    let loaded = load(table, orders, rows, access, address, size, admitted.given);
+    let counted = count_access(table, orders, rows, false, loaded);
+    counted.given
 }
 
 // The entry in a row.
@@ -89,7 +90,8 @@ fn hit_row(
 {
     let e = entry_of(table, rows, row, address);
     touch_entry(table, rows, row, protected_for(access, e));
-    count_access(table, orders, rows, true, 0)
+    let counted = count_access(table, orders, rows, true, 0);
+    counted.given
 }
 
 pub fn protect(

@@ -29,7 +29,8 @@ fn room_unless_held(table: &mut [u64], orders: &mut [u64], rows: usize, hold: Ho
     if is_held(hold) {
         return 0;
     }
-    make_room(table, orders, rows, 0, false, 0)
+    let made = make_room(table, orders, rows, 0, false, 0);
+    made.given
 }
 
 pub fn release(table: &mut [u64], orders: &mut [u64], row: usize, address: u64) -> usize

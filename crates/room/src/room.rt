@@ -14,6 +14,12 @@ use entries::is_alone;
 use table::header::mode;
 use table::header::settings;
 
+// What work that may give orders tells.
+pub struct Done {
+    // The number after the orders given.
+    pub given: usize,
+}
+
 // The first step, and alone the clean share too.
 fn room_in(
     table: &mut [u64],
@@ -23,19 +29,19 @@ fn room_in(
     size: u64,
     row: bool,
     before: usize,
-) -> usize
+) -> Done
     requires { ⌜ GoodRows (now table) rows × (alone ≡ isAlone (cacheIn (now table) .mode)) × (size ≤ mostSize) × Fits (cacheIn (now table)) before (now orders) ⌝ }
-    ensures { λ r. ⌜ Did (roomIn (cacheIn (now (table .entry)) .mode) size row (start (cacheIn (now (table .entry))))) (restIn (now (table .entry))) (now (table .exit)) before (now (orders .entry)) (now (orders .exit)) r ⌝ }
+    ensures { λ r. ⌜ Did (roomIn (cacheIn (now (table .entry)) .mode) size row (start (cacheIn (now (table .entry))))) (restIn (now (table .entry))) (now (table .exit)) before (now (orders .entry)) (now (orders .exit)) (r .given) ⌝ }
 {
     let first = evict_until(table, orders, rows, alone, size, row, before);
-    let given = first.given;
     if !alone {
-        return given;
+        return Done { given: first.given };
     }
-    write_dirty(table, orders, rows, size, first.held, given)
+    let given = write_dirty(table, orders, rows, size, first.held, first.given);
+    Done { given }
 }
 
-// Room for an incoming size and, if one is wanted, a row. The answer is the number after the orders.
+// Room for an incoming size and, if one is wanted, a row.
 pub fn make_room(
     table: &mut [u64],
     orders: &mut [u64],
@@ -43,13 +49,13 @@ pub fn make_room(
     size: u64,
     row: bool,
     before: usize,
-) -> usize
+) -> Done
     requires { ⌜ GoodRows (now table) rows × (size ≤ mostSize) × Fits (cacheIn (now table)) before (now orders) ⌝ }
-    ensures { λ r. ⌜ Did (makeRoom size row (start (cacheIn (now (table .entry))))) (restIn (now (table .entry))) (now (table .exit)) before (now (orders .entry)) (now (orders .exit)) r ⌝ }
+    ensures { λ r. ⌜ Did (makeRoom size row (start (cacheIn (now (table .entry))))) (restIn (now (table .entry))) (now (table .exit)) before (now (orders .entry)) (now (orders .exit)) (r .given) ⌝ }
 {
     let s = settings(table);
     if !s.evictions {
-        return before;
+        return Done { given: before };
     }
     let alone = is_alone(mode(table));
     room_in(table, orders, rows, alone, size, row, before)
