@@ -8,7 +8,7 @@ use Rattle.settings.specs.Validation.{firstBad}
 use Rattle.settings.specs.declared.Settings.{Settings}
 use Rattle.rules.proofs.Figures.{configured-range}
 use Rattle.rules.proofs.Tests.{choose, either}
-use Rattle.rules.specs.Cache.{Cache, withSettings, withMaximum, withCounters}
+use Rattle.rules.specs.Cache.{Cache, withSettings, withMaximum, restart}
 use Rattle.rules.specs.Entries.{if_then_else_}
 use Rattle.rules.specs.Limits.{countStop}
 use Rattle.rules.specs.Refusals.{tooFewWords}
@@ -35,9 +35,9 @@ module _ (s : Settings) (c : Cache) (maximum n : ℕ) (p : maximum ≡ c .maximu
       let r = configured-range s c h k .ranged in
       record { passes = h; least = rw maximum-is (r .least); most = rw maximum-is (r .most) }
 
-  pub configured-held : {mid out rest : List ℕ} → Holds mid (withMaximum n (withSettings s c)) rest → Holds out (withCounters 0 0 (cacheIn mid)) (restIn mid)
+  pub configured-held : {mid out rest : List ℕ} → Holds mid (withMaximum n (withSettings s c)) rest → Holds out (restart (cacheIn mid)) (restIn mid)
       → Holds out (configured s c) rest
-  configured-held {mid} {out} {rest} h k = subst (λ (m : ℕ). Holds out (withCounters 0 0 (withMaximum m (withSettings s c))) rest) maximum-is (onward (withCounters 0 0) h k)
+  configured-held {mid} {out} {rest} h k = subst (λ (m : ℕ). Holds out (restart (withMaximum m (withSettings s c))) rest) maximum-is (onward restart h k)
 
 -- the orders that can come for the table that the settings left
 pub configured-fits : (s : Settings) (c : Cache) (lent : List ℕ) {mid rest : List ℕ} → tooFewWords c (length lent) ≡ false → Holds mid (configured s c) rest → Fits (cacheIn mid) 0 lent

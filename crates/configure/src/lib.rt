@@ -15,8 +15,8 @@ ghost use Rattle.room.specs.Did.{Did};
 use room::make_room;
 use settings::Settings;
 use table::header::maximum;
+use table::header::restart;
 use table::header::row_count;
-use table::header::set_counters;
 use table::header::set_settings;
 
 // The initial size if it is set, else the maximum brought into the range of the settings.
@@ -36,7 +36,7 @@ fn set_all(table: &mut [u64], s: Settings)
 {
     let n = configured_maximum(s, maximum(table));
     set_settings(table, s, n);
-    set_counters(table, 0, 0);
+    restart(table);
 }
 
 pub fn configure(table: &mut [u64], orders: &mut [u64], s: Settings) -> usize

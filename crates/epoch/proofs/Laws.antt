@@ -21,7 +21,7 @@ use Rattle.rules.proofs.Epochs.{resized-moves, before-room}
 use Rattle.rules.proofs.Moved.{moved}
 use Rattle.rules.proofs.Moves.{aged-moves, sound-listed}
 use Rattle.rules.proofs.Tests.{choose, either}
-use Rattle.rules.specs.Cache.{Cache, Work, start, withMaximum, withCounters, held}
+use Rattle.rules.specs.Cache.{Cache, Work, start, withMaximum, withCounters, restart, held}
 use Rattle.rules.specs.Entries.{if_then_else_}
 use Rattle.rules.specs.Resizing.{isBelow, isFull, atMost, atLeast, increasedBy, increasedIn, lowered, loweredIn, lower, evictAged, ageOut, decreasedBy, resized, aged, endEpoch, counts, counted, countAccess}
 use Rattle.rules.specs.Room.{makeRoom}
@@ -167,9 +167,9 @@ module _ {table lent table₁ words₁ : List ℕ} {rows before given : ℕ} (g 
       let s = g .good .steady .sound in
       good-rows (d .holds) (g .size ∙ sym (moved (resized-moves (start c) s (hitRate (c .hits) (c .accesses))) s .kept .rows))
 
-  module _ {table₂ table₃ : List ℕ} (k : Holds table₂ (agedRows (cacheIn table₁)) (restIn table₁)) (m : Holds table₃ (withCounters 0 0 (cacheIn table₂)) (restIn table₂)) where
+  module _ {table₂ table₃ : List ℕ} (k : Holds table₂ (agedRows (cacheIn table₁)) (restIn table₁)) (m : Holds table₃ (restart (cacheIn table₂)) (restIn table₂)) where
     aged-held : Holds table₃ (aged (resizedIn (cacheIn table)) .cache) (restIn table)
-    aged-held = onward (withCounters 0 0) (onward agedRows (d .holds) k) m
+    aged-held = onward restart (onward agedRows (d .holds) k) m
 
     pub aged-good : GoodRows table₃ rows
     aged-good =

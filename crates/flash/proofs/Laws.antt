@@ -11,7 +11,7 @@ use Rattle.settings.specs.declared.Flash.{Flash}
 use Rattle.settings.specs.declared.Flash.the-variants as flash
 use Rattle.settings.specs.declared.Settings.{Settings}
 use Rattle.rules.proofs.Tests.{choose, either}
-use Rattle.rules.specs.Cache.{Cache, withMaximum, withCounters, held}
+use Rattle.rules.specs.Cache.{Cache, withMaximum, restart, held}
 use Rattle.rules.specs.Resizing.{flashMaximum, flashedTo, flashed}
 use Rattle.layout.proofs.Held.{onward}
 use Rattle.layout.specs.Holds.{Holds}
@@ -30,11 +30,11 @@ same (flash.On n t) x m h l e = choose (λ (r : ℕ). r ≡ m) (exceedsShare x t
 
 -- ---- a raise
 
-pub raise-up : {vs ws rest : List ℕ} (c : Cache) (n : ℕ) → c .maximum < n → Holds vs (withMaximum n c) rest → Holds ws (withCounters 0 0 (cacheIn vs)) (restIn vs)
+pub raise-up : {vs ws rest : List ℕ} (c : Cache) (n : ℕ) → c .maximum < n → Holds vs (withMaximum n c) rest → Holds ws (restart (cacheIn vs)) (restIn vs)
     → Holds ws (raised n c) rest
 raise-up {vs} {ws} {rest} c n l h k =
     choose (λ (d : Cache). Holds ws d rest) (ltb (c .maximum) n)
-    (λ p. onward (withCounters 0 0) h k)
+    (λ p. onward restart h k)
     (λ p. absurd (omega (arith, ltb-false (c .maximum) n p)))
 
 pub raise-not : {ws rest : List ℕ} {c : Cache} (n : ℕ) → n ≤ c .maximum → Holds ws c rest → Holds ws (raised n c) rest

@@ -9,7 +9,7 @@ ghost use Rattle.table.specs.Asked.{GoodRows};
 ghost use Rattle.flash.specs.Raised.{isFlash, raised};
 use settings::Flash;
 use table::header::maximum;
-use table::header::set_counters;
+use table::header::restart;
 use table::header::set_maximum;
 use table::header::settings;
 use table::sums::held_bytes;
@@ -34,7 +34,7 @@ fn raise(table: &mut [u64], before: u64, n: u64)
 {
     if before < n {
         set_maximum(table, n);
-        set_counters(table, 0, 0);
+        restart(table);
     }
 }
 

@@ -2,7 +2,7 @@
 ghost use mathlib.Core.Path.{_≡_};
 ghost use Prim.Native.Nat.{_≤_};
 ghost use lib.ListN.{length};
-ghost use Rattle.rules.specs.Cache.{withSettings, withMaximum, withCounters, withCount};
+ghost use Rattle.rules.specs.Cache.{withSettings, withMaximum, withCounters, withCount, restart};
 ghost use Rattle.rules.specs.Limits.{countStop};
 ghost use Rattle.layout.specs.Picture.{cacheIn, restIn};
 ghost use Rattle.layout.specs.Holds.{Holds, Good};
@@ -91,6 +91,14 @@ pub fn set_counters(table: &mut [u64], accesses: u64, hits: u64)
 {
     table[ACCESSES_AT] = accesses;
     table[HITS_AT] = hits;
+}
+
+// Counters restart.
+pub fn restart(table: &mut [u64])
+    requires { ⌜ Good (now table) ⌝ }
+    ensures { λ _. ⌜ Holds (now (table .exit)) (restart (cacheIn (now (table .entry)))) (restIn (now (table .entry))) ⌝ }
+{
+    set_counters(table, 0, 0);
 }
 
 pub fn set_count(table: &mut [u64], n: u64)

@@ -18,8 +18,8 @@ set-settings-requires c κs =
     let g = s .pre .0 in
     (g, settable (s .args .s) (cacheIn (s .args .table .now)) (c .before .before .maximum .result) (c .before .configured-maximum .result) (c .before .before .maximum .ensures) (c .before .configured-maximum .ensures) (s .pre .1) (g .steady .count))
 
-set-counters-requires : tie.Need-set-counters-requires
-set-counters-requires c κs = holds-good (c .before .before .before .set-settings .ensures)
+restart-requires : tie.Need-restart-requires
+restart-requires c κs = holds-good (c .before .before .before .set-settings .ensures)
 
 same-length : tie.Need-same-length
 same-length c = search needs
@@ -27,7 +27,7 @@ same-length c = search needs
 returns : tie.Need-returns
 returns c =
     let s = c .before .before .before .before .before .before .before .before .before .before .before .before in
-    configured-held (s .args .s) (cacheIn (s .args .table .now)) (c .before .before .before .before .before .before .before .before .before .maximum .result) (c .before .before .before .before .before .before .before .before .configured-maximum .result) (c .before .before .before .before .before .before .before .before .before .maximum .ensures) (c .before .before .before .before .before .before .before .before .configured-maximum .ensures) (c .before .before .before .before .before .before .set-settings .ensures) (c .before .before .set-counters .ensures)
+    configured-held (s .args .s) (cacheIn (s .args .table .now)) (c .before .before .before .before .before .before .before .before .before .maximum .result) (c .before .before .before .before .before .before .before .before .configured-maximum .result) (c .before .before .before .before .before .before .before .before .before .maximum .ensures) (c .before .before .before .before .before .before .before .before .configured-maximum .ensures) (c .before .before .before .before .before .before .set-settings .ensures) (c .before .before .restart .ensures)
 
 pub set-all-spec : {M : Type 1} → statement M
 set-all-spec =
@@ -36,6 +36,6 @@ set-all-spec =
     maximum-requires
     configured-maximum-requires
     set-settings-requires
-    set-counters-requires
+    restart-requires
     same-length
     returns)

@@ -28,8 +28,8 @@ age-all-requires c κs =
     let d = rate-is (cacheIn (s .args .table .now)) (r .result) (h .result) (a .result) (h .ensures) (a .ensures) (r .ensures) (c .before .before .before .before .before .resize-maximum .ensures) in
     resized-good (s .pre .0) d
 
-set-counters-requires : tie.Need-set-counters-requires
-set-counters-requires c κs = holds-good (c .before .before .before .age-all .ensures)
+restart-requires : tie.Need-restart-requires
+restart-requires c κs = holds-good (c .before .before .before .age-all .ensures)
 
 make-room-requires : tie.Need-make-room-requires
 make-room-requires c κs =
@@ -39,7 +39,7 @@ make-room-requires c κs =
     let r = c .before .before .before .before .before .before .before .before .before .before .before .before .before .before .before .before .before .hit-rate in
     let d = rate-is (cacheIn (s .args .table .now)) (r .result) (h .result) (a .result) (h .ensures) (a .ensures) (r .ensures) (c .before .before .before .before .before .before .before .before .before .before .before .before .before .before .resize-maximum .ensures) in
     let k = c .before .before .before .before .before .before .before .before .age-all .ensures in
-    let m = c .before .before .before .before .set-counters .ensures in
+    let m = c .before .before .before .before .restart .ensures in
     (aged-good (s .pre .0) d k m, omega arith, aged-fits (s .pre .0) d k m (s .pre .1) (omega (arith, c .before .before .before .before .before .before .before .before .before .before .before .before .before .before .resize-maximum .kept .1)))
 
 same-length : tie.Need-same-length
@@ -55,7 +55,7 @@ returns c =
     let a = c .before .before .before .before .before .before .before .before .before .before .before .before .before .before .before .before .before .before .before .before .before .before .before .accesses in
     let r = c .before .before .before .before .before .before .before .before .before .before .before .before .before .before .before .before .before .before .before .before .before .before .hit-rate in
     let d = rate-is (cacheIn (s .args .table .now)) (r .result) (h .result) (a .result) (h .ensures) (a .ensures) (r .ensures) (c .before .before .before .before .before .before .before .before .before .before .before .before .before .before .before .before .before .before .before .resize-maximum .ensures) in
-    epoch-joins (s .pre .0) d (c .before .before .before .before .before .before .before .before .before .before .before .before .before .age-all .ensures) (c .before .before .before .before .before .before .before .before .before .set-counters .ensures) (c .before .before .before .before .make-room .ensures)
+    epoch-joins (s .pre .0) d (c .before .before .before .before .before .before .before .before .before .before .before .before .before .age-all .ensures) (c .before .before .before .before .before .before .before .before .before .restart .ensures) (c .before .before .before .before .make-room .ensures)
 
 pub end-epoch-spec : {M : Type 1} → statement M
 end-epoch-spec =
@@ -66,7 +66,7 @@ end-epoch-spec =
     hit-rate-requires
     resize-maximum-requires
     age-all-requires
-    set-counters-requires
+    restart-requires
     make-room-requires
     same-length
     same-length-2
