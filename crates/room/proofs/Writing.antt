@@ -27,10 +27,11 @@ use Rattle.rules.specs.declared.order.Kind.{Kind}
 use Rattle.rules.specs.declared.order.Order.{Order}
 use Rattle.layout.proofs.Cuts.{elem-at}
 use Rattle.layout.proofs.Held.{holds-cache}
+use Rattle.layout.specs.Holds.{Good}
 use Rattle.layout.specs.Picture.{cacheIn, restIn}
 use Rattle.table.specs.Asked.{GoodRows}
 use Rattle.table.specs.Told.{cleanSize}
-use Rattle.room.proofs.Kept.{Gave, work, Kept, kept-start, kept-gives, kept-told, left-write}
+use Rattle.room.proofs.Kept.{Gave, work, did-start, Kept, kept-start, kept-gives, kept-told, left-write}
 use Rattle.room.specs.Did.{Did, Fits}
 use Rattle.room.specs.Missing.{wantedBytes, missingBytes}
 
@@ -181,3 +182,10 @@ pub writing-in : {x : ℕ} {c₀ : Cache} {rows before : ℕ} {rest lent : List 
     → Writing x c₀ rows before rest lent listed table words missing pos given (cacheIn table)
 writing-in {x} {c₀} {rows} {before} {rest} {lent} {listed} {table} {words} {missing} {pos} {given} {c} k =
     subst (λ (d : Cache). Writing x c₀ rows before rest lent listed table words missing pos given d) (sym (holds-cache (k .kept .did .holds))) k
+
+-- nothing is wanted
+pub writing-none : {table lent : List ℕ} {wanted before : ℕ} (x : ℕ) → Good table → wanted ≡ wantedBytes x (cacheIn table) → wanted ≡ 0
+    → Did (writeDirty x (cacheIn table .recency) (start (cacheIn table))) (restIn table) table before lent lent before
+writing-none {table} x g w z =
+    rw (rests x (cacheIn table .recency) (start (cacheIn table)) (le-leb (minimumClean (cacheIn table)) (cleanBytes (cacheIn table .rows) (cacheIn table .recency) + unusedBytes x (cacheIn table)) (omega arith)))
+    (did-start g)

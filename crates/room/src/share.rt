@@ -108,6 +108,9 @@ pub fn write_dirty(
     ensures { λ r. ⌜ Did (writeDirty size (cacheIn (now (table .entry)) .recency) (start (cacheIn (now (table .entry))))) (restIn (now (table .entry))) (now (table .exit)) before (now (orders .entry)) (now (orders .exit)) r ⌝ }
 {
     let wanted = clean_wanted(table, size, held);
+    if wanted == 0 {
+        return before;
+    }
     let missing = clean_missing(table, rows, wanted);
     write_until(table, orders, rows, size, missing, before)
 }

@@ -1,6 +1,8 @@
 -- What the first step leaves lets the second begin, and both together are the rule; in the modes that don't write the first is all.
 use borrow.Author.Tests.{not-true, not-false}
+use Rattle.layout.specs.Picture.{cacheIn}
 use Rattle.room.proofs.Joined.{other-joins, held-left, first-good, first-fits, alone-joins}
+use Rattle.room.specs.First.{evictIn}
 use native.Mathlib.Omega.{arith}
 use borrow.Author.Needs.{needs}
 use Rattle.room.proofs.room.room_in.Statement.{statement}
@@ -28,7 +30,7 @@ write-dirty-requires c κs =
     let a = not-false (s .args .alone) (c .before .before .if1 .left) in (
       first-good (s .args .size) (s .args .row) (s .pre .0) d a,
       s .pre .2,
-      held-left (e .ensures),
+      held-left {w = evictIn (s .args .alone) (s .args .size) (s .args .row) (cacheIn (s .args .table .now))} (e .ensures),
       first-fits (s .args .size) (s .args .row) (s .pre .0) d a (s .pre .3) (omega (arith, e .kept .1)),
     )
 
