@@ -4,6 +4,9 @@ pub mod RunWords
 pub mod Parts
 pub mod RowWords
 pub mod Names
+pub mod Tally
+pub mod Counting
+pub mod Climbing
 pub mod Numbered
 pub mod TableWords
 pub mod OwnWords

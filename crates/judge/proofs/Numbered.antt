@@ -170,11 +170,25 @@ module _ (c : Cache) (sound : Sound c) (entries : (a : ℕ) (e : Entry) → get 
 
 -- ---- numbers of rows
 
-elem-getD : (xs : List ℕ) (i : ℕ) → i < length xs → elem (getD xs i 0) xs ≡ true
+pub elem-getD : (xs : List ℕ) (i : ℕ) → i < length xs → elem (getD xs i 0) xs ≡ true
 unfolding elem
 elem-getD [] i h = absurd (omega arith)
 elem-getD (x ∷ xs) zero h = elem-first x xs
 elem-getD (x ∷ xs) (suc i) h = or-right (eqb x (getD xs i 0)) (elem (getD xs i 0) xs) (elem-getD xs i (le-of-suc-le-suc h))
+
+-- where a number stands
+pub record At (xs : List ℕ) (x : ℕ) : Type 0 where
+  pub place : ℕ
+  pub low : place < length xs
+  pub is : getD xs place 0 ≡ x
+
+pub at : (xs : List ℕ) (x : ℕ) → elem x xs ≡ true → At xs x
+unfolding elem
+at [] x h = no _ refl h
+at (y ∷ xs) x h =
+    split (eqb y x)
+    (λ p. record { place = 0; low = omega arith; is = eqb-true y x p })
+    (λ p. let r = at xs x (rw p at h) in record { place = suc (r .place); low = let l = r .low in omega arith; is = r .is })
 
 -- the numbers of rows that pass a test are below the row count
 pub number-below : (rows : List Row) (test : Entry → Bool) (xs : List ℕ) → ((r : ℕ) → elem r xs ≡ testRow test (getD rows r Free)) → (i : ℕ) → i < length xs

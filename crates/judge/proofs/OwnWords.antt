@@ -22,7 +22,7 @@ use Rattle.layout.specs.Picture.{rowNumber, addressAt, addresses, rowsWords, ru
 use Rattle.layout.proofs.Numbers.{listed-most, used-most}
 use Rattle.layout.proofs.Seams.{length-head, length-rows, length-run, past, drop-recency, drop-addresses, length-laid}
 use Rattle.judge.specs.Fits.{FitsAt, PartsFit, TableFits, numbers, part, usedAt, listedAt}
-use Rattle.judge.proofs.RowWords.{testRow, word, row-fits, words-used, words-listed, words-address, word-at}
+use Rattle.judge.proofs.RowWords.{testRow, word, row-fits, word-not-ones, words-used, words-listed, words-address, word-at}
 use Rattle.judge.proofs.RunWords.{own-numbers, own-run}
 use Rattle.judge.proofs.Numbered.{Numbered, numbered-of, number-below, rising-once}
 
@@ -112,6 +112,7 @@ module _ (c : Cache) (ok : Allowed c) (rest : List ℕ) where
     recencyRun = own-run n n recency recency-few (ok .rows) recency-below (lists .once);
     orderRun = own-run n n order order-few (ok .rows) order-below (rising-once (addressAt (c .rows)) order (lists .rises));
     rows = rows-fit;
+    notOnes = λ r h. rw (first-word r h) (word-not-ones (getD (c .rows) r Free) (lists .allowed r));
     inRecency = λ r h. ap (elem r) recency-numbers ∙ lists .listed r ∙ sym (listed-is r h);
     inOrder = λ r h. ap (elem r) order-numbers ∙ lists .used r ∙ sym (used-is r h);
     rises = rw order-numbers (λ i h. omega (arith, address-is i (omega arith), address-is (i + 1) h, lists .rises i h));

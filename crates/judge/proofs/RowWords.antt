@@ -81,11 +81,11 @@ module _ (a s d i p h : ℕ) where
         (λ e. let g = f .free e in rw (e, g .address, g .dirty, g .idle, g .pinned, g .hold))
         (λ n. let g = f .used n in rw (flag-forth d (g .dirty), flag-forth p (g .pinned), hold-forth h))
 
-    pub row-allowed : RowAllowed (rowOf entryBy)
-    row-allowed =
+    pub row-allowed : (a ≡ ones → ⊥) → RowAllowed (rowOf entryBy)
+    row-allowed not-ones =
         row-cases RowAllowed (λ e. tt)
         (λ n. let g = f .used n in record {
-          address = ne-eqb a ones (g .address);
+          address = ne-eqb a ones not-ones;
           nonempty = omega arith;
           size = g .size;
           idle = g .idle;
@@ -130,7 +130,6 @@ row-fits Free f = record {
 row-fits (Used e) f = record {
   free = λ q. absurd (eqb-false (e .size) 0 (nonempty e f) q);
   used = λ n. record {
-    address = eqb-false (e .address) ones (f .address);
     size = f .size;
     dirty = flag-low (e .dirty);
     idle = f .idle;
@@ -138,6 +137,10 @@ row-fits (Used e) f = record {
     hold = hold-low (e .hold) (f .hold);
   };
 }
+
+pub word-not-ones : (x : Row) → RowAllowed x → word x 0 ≡ ones → ⊥
+word-not-ones Free f h = absurd (omega arith)
+word-not-ones (Used e) f h = eqb-false (e .address) ones (f .address) h
 
 pub words-used : (x : Row) → RowAllowed x → flagOf (word x 1) ≡ testRow (λ e. true) x
 words-used Free f = refl

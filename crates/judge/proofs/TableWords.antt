@@ -73,7 +73,7 @@ module _ (ws : List ℕ) (n : ℕ) (long : layoutWords n ≤ length ws)
   pub numbered-words : Numbered rows recency order
   unfolding entryOf
   numbered-words = record {
-    allowed = by-row (λ r x. RowAllowed x) (λ r h. subst RowAllowed (sym (row-is r h)) (row-allowed _ _ _ _ _ _ (f .rows r h))) (λ r h. tt);
+    allowed = by-row (λ r x. RowAllowed x) (λ r h. subst RowAllowed (sym (row-is r h)) (row-allowed _ _ _ _ _ _ (f .rows r h) (f .notOnes r h))) (λ r h. tt);
     listed =
         by-row (λ r x. elem r recency ≡ testRow isListed x)
         (λ r h. ap (elem r) (sym recency-numbers) ∙ f .inRecency r h ∙ sym (ap (testRow isListed) (row-is r h) ∙ row-listed _ _ _ _ _ _ (f .rows r h)))

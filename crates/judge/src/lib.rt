@@ -5,8 +5,12 @@
 // of one cache only.
 //
 //     judge            the header, then
-//     parts_allowed    the two runs, one pass each from the back, which mark the rows that they name;
-//                      the rows, one pass, each compared with its marks; and the rising addresses
+//     parts_allowed    the recency run, which marks the rows that it names; the rows, each compared
+//                      with its mark; and the address run, whose addresses rise
+//
+// No row stands twice in a run, and none is left out: a run has as many words as there are rows to
+// stand in it. In the recency run these are the rows marked; in the address run rising addresses are
+// of different rows.
 ghost use mathlib.Core.Path.{_≡_};
 ghost use Prim.Native.Nat.{_≤_};
 ghost use lib.ListN.{length};
@@ -48,12 +52,8 @@ fn parts_allowed(table: &[u64], recency: &[u64], order: &[u64], rows: usize) -> 
     if !mark_rows(recency, recent, rows, &mut listed) {
         return false;
     }
-    let mut used = [false; MOST_ROWS];
     let ordered = run_length(order);
-    if !mark_rows(order, ordered, rows, &mut used) {
-        return false;
-    }
-    if !rows_allowed(table, rows, &listed, &used) {
+    if !rows_allowed(table, rows, &listed, ordered, recent) {
         return false;
     }
     addresses_rise(table, rows, order, ordered)

@@ -1,14 +1,14 @@
-// The rows of a table: each by its words, and their order by address.
-ghost use mathlib.Core.Path.{_≡_};
-ghost use Prim.Native.Nat.{_<_, _≤_};
-ghost use lib.ListN.{length, getD};
+// The rows of a table: each by its words, how many are used and listed, and their order by address.
+ghost use Prim.Native.Nat.{_≤_};
+ghost use lib.ListN.{length};
 ghost use Rattle.layout.specs.Layout.{rowAt};
 ghost use Rattle.rules.specs.Limits.{mostRows};
-ghost use Rattle.judge.specs.Fits.{Says, FreeFits, EntryFits, RowFits, listedWords, MarkedRows, Numbers, Rises};
+ghost use Rattle.judge.specs.Fits.{Says, FreeRow, EntryRow, CountedRows, OrderFits};
 use crate::MOST_ROWS;
 use layout::HEADER;
 use layout::ONES;
 use layout::WIDTH;
+use settings_words::flag_word;
 
 const MOST_SIZE: u64 = 134217728;
 
@@ -17,115 +17,99 @@ const MOST_IDLE: u64 = 10;
 // The hold word of a writer.
 const WRITER: u64 = 65536;
 
-// The words of a free row but its size, which is 0.
-fn free_allowed(address: u64, dirty: u64, idle: u64, pinned: u64, hold: u64) -> bool
-    ensures { λ r. ⌜ Says r (FreeFits address dirty idle pinned hold) ⌝ }
+// A free row: all its words are 0, and it is not listed.
+fn free_allowed(
+    address: u64,
+    size: u64,
+    dirty: u64,
+    idle: u64,
+    pinned: u64,
+    hold: u64,
+    listed: bool,
+) -> bool
+    ensures { λ r. ⌜ Says r (FreeRow address size dirty idle pinned hold listed) ⌝ }
 {
-    if address != 0 {
-        return false;
-    }
-    if dirty != 0 {
-        return false;
-    }
-    if idle != 0 {
-        return false;
-    }
-    if pinned != 0 {
-        return false;
-    }
-    hold == 0
+    let zero = (dirty == 0) & (idle == 0) & (pinned == 0) & (hold == 0);
+    (size == 0) & (address == 0) & zero & !listed
 }
 
-// The words of an entry, whose size is not 0.
-fn entry_allowed(address: u64, size: u64, dirty: u64, idle: u64, pinned: u64, hold: u64) -> bool
-    ensures { λ r. ⌜ Says r (EntryFits address size dirty idle pinned hold) ⌝ }
+// The words of an entry but its address and size. It is listed if it is neither held nor pinned.
+fn entry_allowed(dirty: u64, idle: u64, pinned: u64, hold: u64, listed: bool) -> bool
+    ensures { λ r. ⌜ Says r (EntryRow dirty idle pinned hold listed) ⌝ }
 {
-    if address == ONES {
+    if !((dirty <= 1) & (pinned <= 1) & (idle <= MOST_IDLE) & (hold <= WRITER)) {
         return false;
     }
-    if MOST_SIZE < size {
-        return false;
-    }
-    if 1 < dirty {
-        return false;
-    }
-    if MOST_IDLE < idle {
-        return false;
-    }
-    if 1 < pinned {
-        return false;
-    }
-    hold <= WRITER
+    listed == ((hold == 0) & (pinned == 0))
 }
 
-// A row of size 0 is free.
-fn row_allowed(address: u64, size: u64, dirty: u64, idle: u64, pinned: u64, hold: u64) -> bool
-    ensures { λ r. ⌜ Says r (RowFits address size dirty idle pinned hold) ⌝ }
-{
-    if size == 0 {
-        return free_allowed(address, dirty, idle, pinned, hold);
-    }
-    entry_allowed(address, size, dirty, idle, pinned, hold)
-}
-
-// Whether a row's entry is neither held nor pinned.
-fn is_listed(size: u64, pinned: u64, hold: u64) -> bool
-    ensures { λ r. ⌜ r ≡ listedWords size pinned hold ⌝ }
-{
-    (size != 0) & (hold == 0) & (pinned == 0)
-}
-
-// Every row is allowed; it is marked as listed if its entry is to be, and as used if it has one.
+// Every row is allowed and listed as it is to be; so many are used, and so many are listed.
 pub fn rows_allowed(
     table: &[u64],
     rows: usize,
     listed: &[bool; MOST_ROWS],
-    used: &[bool; MOST_ROWS],
+    used: usize,
+    recent: usize,
 ) -> bool
     requires { ⌜ (rows ≤ mostRows) × (rowAt rows ≤ length (now table)) ⌝ }
-    ensures { λ r. ⌜ Says r (MarkedRows (now (table .entry)) rows (now (listed .entry)) (now (used .entry))) ⌝ }
+    ensures { λ r. ⌜ Says r (CountedRows (now (table .entry)) rows (now (listed .entry)) used recent) ⌝ }
 {
+    let mut entries: usize = 0;
+    let mut marks: usize = 0;
     let mut i: usize = 0;
     while i < rows {
         let at = HEADER + i * WIDTH;
         let size = table[at + 1];
+        let dirty = table[at + 2];
+        let idle = table[at + 3];
         let pinned = table[at + 4];
         let hold = table[at + 5];
-        if !row_allowed(table[at], size, table[at + 2], table[at + 3], pinned, hold) {
-            return false;
+        let mark = listed[i];
+        if (size != 0) & (size <= MOST_SIZE) {
+            if !entry_allowed(dirty, idle, pinned, hold, mark) {
+                return false;
+            }
+            entries += 1;
+        } else {
+            if !free_allowed(table[at], size, dirty, idle, pinned, hold, mark) {
+                return false;
+            }
         }
-        if listed[i] != is_listed(size, pinned, hold) {
-            return false;
-        }
-        if used[i] != (size != 0) {
-            return false;
-        }
+        marks += flag_word(mark) as usize;
         i += 1;
     }
-    true
+    (entries == used) & (marks == recent)
 }
 
-// The address of a row.
-fn address_at(table: &[u64], row: usize) -> u64
-    requires { ⌜ (row < mostRows) × (rowAt row < length (now table)) ⌝ }
-    ensures { λ r. ⌜ r ≡ getD (now (table .entry)) (rowAt row) 0 ⌝ }
-{
-    table[HEADER + row * WIDTH]
-}
-
-// The first n words of the address run lead to rising addresses.
+// The first n words of the address run name rows with rising addresses below all ones. The first of
+// them is used, and so are the others: a free row has address 0.
 pub fn addresses_rise(table: &[u64], rows: usize, order: &[u64], n: usize) -> bool
-    requires { ⌜ (rows ≤ mostRows) × ((rowAt rows ≤ length (now table)) × ((n ≤ length (now order)) × Numbers (now order) n rows)) ⌝ }
-    ensures { λ r. ⌜ Says r (Rises (now (table .entry)) (now (order .entry)) n) ⌝ }
+    requires { ⌜ (rows ≤ mostRows) × ((rowAt rows ≤ length (now table)) × (n ≤ length (now order))) ⌝ }
+    ensures { λ r. ⌜ Says r (OrderFits (now (table .entry)) (now (order .entry)) n rows) ⌝ }
 {
-    let mut i: usize = 0;
-    while i + 1 < n {
-        let a = order[i] as usize;
-        let b = order[i + 1] as usize;
-        if address_at(table, b) <= address_at(table, a) {
+    if n == 0 {
+        return true;
+    }
+    let first = order[0] as usize;
+    if rows <= first {
+        return false;
+    }
+    if table[HEADER + first * WIDTH + 1] == 0 {
+        return false;
+    }
+    let mut last = table[HEADER + first * WIDTH];
+    let mut i: usize = 1;
+    while i < n {
+        let row = order[i] as usize;
+        if rows <= row {
             return false;
         }
+        let address = table[HEADER + row * WIDTH];
+        if address <= last {
+            return false;
+        }
+        last = address;
         i += 1;
     }
-    true
+    last != ONES
 }

@@ -20,22 +20,19 @@ pub fn run_length(run: &[u64]) -> usize
     0
 }
 
-// The first n words of a run are numbers of different rows, each of which is marked.
+// The first n words of a run are numbers of rows, which are marked.
 pub fn mark_rows(run: &[u64], n: usize, rows: usize, seen: &mut [bool; MOST_ROWS]) -> bool
     requires { ⌜ (rows ≤ mostRows) × ((n ≤ length (now run)) × Unmarked (now seen)) ⌝ }
     ensures { λ r. ⌜ Marked r (now (run .entry)) n rows (now (seen .exit)) ⌝ }
 {
-    let mut i = n;
-    while 0 < i {
-        i -= 1;
+    let mut i: usize = 0;
+    while i < n {
         let row = run[i] as usize;
         if rows <= row {
             return false;
         }
-        if seen[row] {
-            return false;
-        }
         seen[row] = true;
+        i += 1;
     }
     true
 }

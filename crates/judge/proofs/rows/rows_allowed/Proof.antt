@@ -1,23 +1,27 @@
--- `rows_allowed` says whether every row fits and agrees with its marks. The invariant: the rows passed do.
-use Prim.Native.Nat.{ℕ, _-_, _≤_, _<_}
+-- `rows_allowed` says whether every row fits and is marked as it is to be, and how many are. The invariant is `Counted`: so it is up to
+-- the row at hand.
+use Prim.Native.Nat.{_-_, _≤_}
 use mathlib.Core.Path.{sym, _∙_}
+use mathlib.Core.Logic.{⊎-elim}
+use native.Mathlib.Nat.{add-zero}
 use native.Mathlib.Omega.{arith}
-use borrow.Author.Count.{below-more}
 use borrow.Author.Tests.{not-true, not-false}
 use borrow.Author.Needs.{needs}
-use Rattle.judge.specs.Fits.{MarkedRow}
-use Rattle.judge.proofs.Says.{says-no, says-yes, denies, same, differ}
-use Rattle.judge.proofs.rows.rows_allowed.Tie as tie
+use Rattle.judge.specs.Fits.{markAt}
+use Rattle.judge.proofs.Says.{says-no, denies}
+use Rattle.judge.proofs.Tally.{word-low}
+use Rattle.judge.proofs.Counting.{Counted, counted-start, counted-on, says-count, entry-row, free-row, row-entry, row-free}
 use Rattle.judge.proofs.rows.rows_allowed.Statement.{statement}
+use Rattle.judge.proofs.rows.rows_allowed.Tie as tie
 
 abbrev Inv-loop : tie.InvT-loop
-Inv-loop table rows listed used i₀ i = (i ≤ rows) × ((r : ℕ) → r < i → MarkedRow table listed used r)
+Inv-loop table rows listed used recent entries₀ marks₀ i₀ entries marks i = Counted table listed rows entries marks i
 
 abbrev μ-loop : tie.MeasureT-loop
-μ-loop table rows listed used i₀ i = rows - i
+μ-loop table rows listed used recent entries₀ marks₀ i₀ entries marks i = rows - i
 
 loop-holds : tie.Need-loop-holds Inv-loop μ-loop
-loop-holds c = (omega arith, λ r h. absurd (omega arith))
+loop-holds c = counted-start _ _ _
 
 mul-at : tie.Need-mul-at Inv-loop μ-loop
 mul-at c = search needs
@@ -33,6 +37,24 @@ mul-size c = search needs
 
 shared-slice-read-size : tie.Need-shared-slice-read-size Inv-loop μ-loop
 shared-slice-read-size c = search needs
+
+add-dirty : tie.Need-add-dirty Inv-loop μ-loop
+add-dirty c = search needs
+
+mul-dirty : tie.Need-mul-dirty Inv-loop μ-loop
+mul-dirty c = search needs
+
+shared-slice-read-dirty : tie.Need-shared-slice-read-dirty Inv-loop μ-loop
+shared-slice-read-dirty c = search needs
+
+add-idle : tie.Need-add-idle Inv-loop μ-loop
+add-idle c = search needs
+
+mul-idle : tie.Need-mul-idle Inv-loop μ-loop
+mul-idle c = search needs
+
+shared-slice-read-idle : tie.Need-shared-slice-read-idle Inv-loop μ-loop
+shared-slice-read-idle c = search needs
 
 add-pinned : tie.Need-add-pinned Inv-loop μ-loop
 add-pinned c = search needs
@@ -52,50 +74,37 @@ mul-hold c = search needs
 shared-slice-read-hold : tie.Need-shared-slice-read-hold Inv-loop μ-loop
 shared-slice-read-hold c = search needs
 
-mul-row-allowed : tie.Need-mul-row-allowed Inv-loop μ-loop
-mul-row-allowed c = search needs
+element-copy-out-mark : tie.Need-element-copy-out-mark Inv-loop μ-loop
+element-copy-out-mark c = search needs
 
-shared-slice-read-row-allowed : tie.Need-shared-slice-read-row-allowed Inv-loop μ-loop
-shared-slice-read-row-allowed c = search needs
-
-add-row-allowed : tie.Need-add-row-allowed Inv-loop μ-loop
-add-row-allowed c = search needs
-
-mul-row-allowed-2 : tie.Need-mul-row-allowed-2 Inv-loop μ-loop
-mul-row-allowed-2 c = search needs
-
-shared-slice-read-row-allowed-2 : tie.Need-shared-slice-read-row-allowed-2 Inv-loop μ-loop
-shared-slice-read-row-allowed-2 c = search needs
-
-add-row-allowed-2 : tie.Need-add-row-allowed-2 Inv-loop μ-loop
-add-row-allowed-2 c = search needs
-
-mul-row-allowed-3 : tie.Need-mul-row-allowed-3 Inv-loop μ-loop
-mul-row-allowed-3 c = search needs
-
-shared-slice-read-row-allowed-3 : tie.Need-shared-slice-read-row-allowed-3 Inv-loop μ-loop
-shared-slice-read-row-allowed-3 c = search needs
-
-row-allowed-requires : tie.Need-row-allowed-requires Inv-loop μ-loop
-row-allowed-requires c κs = search needs
+entry-allowed-requires : tie.Need-entry-allowed-requires Inv-loop μ-loop
+entry-allowed-requires c κs = search needs
 
 returns : tie.Need-returns Inv-loop μ-loop
-returns c = says-no (λ p. denies (c .before .row-allowed .ensures) (not-true _ (c .if1 .taken)) (p _ (omega arith) .fits))
+returns c = says-no (λ p. let m = p .rows (c .before .before .before .before .before .before .before .before .before .before .loop .i) (omega arith) in denies (c .before .entry-allowed .ensures) (not-true _ (c .if2 .taken)) (row-entry (c .before .before .if1 .taken) (m .fits) (m .mark)))
 
-element-copy-out-if2 : tie.Need-element-copy-out-if2 Inv-loop μ-loop
-element-copy-out-if2 c = search needs
+add-entries : tie.Need-add-entries Inv-loop μ-loop
+add-entries c = search needs
 
-is-listed-requires : tie.Need-is-listed-requires Inv-loop μ-loop
-is-listed-requires c κs = search needs
+mul-free-allowed : tie.Need-mul-free-allowed Inv-loop μ-loop
+mul-free-allowed c = search needs
+
+shared-slice-read-free-allowed : tie.Need-shared-slice-read-free-allowed Inv-loop μ-loop
+shared-slice-read-free-allowed c = search needs
+
+free-allowed-requires : tie.Need-free-allowed-requires Inv-loop μ-loop
+free-allowed-requires c κs = search needs
 
 returns-2 : tie.Need-returns-2 Inv-loop μ-loop
-returns-2 c = says-no (λ p. differ _ _ (c .if2 .taken) (p _ (omega arith) .inRecency ∙ sym (c .before .is-listed .ensures)))
+returns-2 c = says-no (λ p. let m = p .rows (c .before .before .before .before .before .before .before .before .before .before .before .loop .i) (omega arith) in denies (c .before .free-allowed .ensures) (not-true _ (c .if3 .taken)) (row-free (c .before .before .before .if1 .left) (m .fits) (m .mark)))
 
-element-copy-out-if3 : tie.Need-element-copy-out-if3 Inv-loop μ-loop
-element-copy-out-if3 c = search needs
+flag-word-requires : tie.Need-flag-word-requires Inv-loop μ-loop
+flag-word-requires c κs = search needs
 
-returns-3 : tie.Need-returns-3 Inv-loop μ-loop
-returns-3 c = says-no (λ p. differ _ _ (c .if3 .taken) (p _ (omega arith) .inOrder))
+add-marks : tie.Need-add-marks Inv-loop μ-loop
+add-marks c =
+    let h : c .flag-word .result ≤ 1 = rw (c .flag-word .ensures) (word-low (markAt (c .before .before .before .before .before .before .before .before .before .before .before .args .listed .now) (c .before .before .before .before .before .before .before .before .before .loop .i))) in
+    omega (arith, h, c .before .before .before .before .before .before .before .before .before .loop .inv .some, c .before .before .before .before .before .before .before .before .before .loop .inv .low, c .before .before .before .before .before .before .before .before .before .before .before .pre .0)
 
 add-i : tie.Need-add-i Inv-loop μ-loop
 add-i c = search needs
@@ -104,18 +113,14 @@ loop-less : tie.Need-loop-less Inv-loop μ-loop
 loop-less c = search needs
 
 loop-again : tie.Need-loop-again Inv-loop μ-loop
-loop-again c = (
-  omega arith,
-  below-more _ _ (c .before .before .before .before .before .before .before .before .before .before .before .before .before .before .loop .inv .1)
-      (record {
-        fits = c .before .before .before .before .before .before .row-allowed .ensures .sound (not-false _ (c .before .before .before .before .before .if1 .left));
-        inRecency = same _ _ (c .before .before .if2 .left) ∙ c .before .before .before .is-listed .ensures;
-        inOrder = same _ _ (c .if3 .left);
-      }),
-)
+loop-again c =
+    ⊎-elim
+    (λ w. counted-on _ _ _ (c .before .before .before .before .before .before .before .before .before .loop .inv) (omega arith) (entry-row (w .0 .taken) (w .1 .ensures .sound (not-false _ (w .2 .left)))) (w .3) (c .flag-word .ensures))
+    (λ w. counted-on _ _ _ (c .before .before .before .before .before .before .before .before .before .loop .inv) (omega arith) (free-row (w .2 .ensures .sound (not-false _ (w .3 .left)))) (w .4 ∙ sym (add-zero _)) (c .flag-word .ensures))
+    (c .before .if1 .came)
 
-returns-4 : tie.Need-returns-4 Inv-loop μ-loop
-returns-4 c = says-yes (λ r h. c .before .loop .inv .1 r (omega arith))
+returns-3 : tie.Need-returns-3 Inv-loop μ-loop
+returns-3 c = says-count _ _ _ _ _ (c .before .loop .inv) (omega arith)
 
 pub rows-allowed-spec : {M : Type 1} → statement M
 rows-allowed-spec =
@@ -129,28 +134,29 @@ rows-allowed-spec =
     add-size
     mul-size
     shared-slice-read-size
+    add-dirty
+    mul-dirty
+    shared-slice-read-dirty
+    add-idle
+    mul-idle
+    shared-slice-read-idle
     add-pinned
     mul-pinned
     shared-slice-read-pinned
     add-hold
     mul-hold
     shared-slice-read-hold
-    mul-row-allowed
-    shared-slice-read-row-allowed
-    add-row-allowed
-    mul-row-allowed-2
-    shared-slice-read-row-allowed-2
-    add-row-allowed-2
-    mul-row-allowed-3
-    shared-slice-read-row-allowed-3
-    row-allowed-requires
+    element-copy-out-mark
+    entry-allowed-requires
     returns
-    element-copy-out-if2
-    is-listed-requires
+    add-entries
+    mul-free-allowed
+    shared-slice-read-free-allowed
+    free-allowed-requires
     returns-2
-    element-copy-out-if3
-    returns-3
+    flag-word-requires
+    add-marks
     add-i
     loop-less
     loop-again
-    returns-4)
+    returns-3)
