@@ -1,20 +1,20 @@
 -- The parts of a table, from what each walk says.
 use Prim.Native.Nat.{ℕ, zero, suc, _+_, _-_, _≤_, _<_}
 use mathlib.Core.Path.{_≡_, refl, sym, ap, subst, _∙_}
-use mathlib.Core.Bool.{Bool, true, false, not}
+use mathlib.Core.Bool.{Bool, true, false}
 use mathlib.Core.List.{List}
 use native.Mathlib.Omega.{arith}
-use borrow.Author.Tests.{eqb-true, ne-eqb, not-false}
 use lib.ListN.{length, getD, take, drop, replicate, length-drop}
 use lib.Seq.{getD-take, length-take-le, take-all}
 use Rattle.rules.specs.Addresses.{elem, twice}
 use Rattle.rules.specs.Limits.{mostRows}
-use Rattle.rules.proofs.Tests.{split}
-use Rattle.layout.specs.Layout.{ones, settingsAt, rowAt}
-use Rattle.judge.specs.Fits.{Says, SettingsFit, Ends, Below, CountedRows, OrderFits, PartsFit, numbers, usedAt, markAt}
+use Rattle.layout.specs.Layout.{ones, settingsAt}
+use Rattle.layout.proofs.Cuts.{elem-at}
+use Rattle.judge.specs.Fits.{Says, SettingsFit, Ends, Below, CountedRows, OrderFits, PartsFit, numbers, wordsAt, usedAt, markAt}
 use Rattle.judge.proofs.Says.{says-by}
+use Rattle.judge.proofs.RowWords.{fits-used}
 use Rattle.judge.proofs.RunWords.{numbers-are, run-fits, below-of, length-is}
-use Rattle.judge.proofs.Numbered.{Rising, rising-once, elem-getD, at}
+use Rattle.judge.proofs.Numbered.{Rising, rising-once, at}
 use Rattle.judge.proofs.Tally.{tally-same, tally-all, tally-full, tally-once}
 
 pub none-seen : (k x : ℕ) → getD (replicate k false) x false ≡ false
@@ -28,6 +28,7 @@ pub from-settings : {r : Bool} {x n h k : ℕ} (ws : List ℕ) → Says r (Setti
 from-settings {r} {x} {n} {h} {k} ws s =
     subst (λ (l : List ℕ). Says r (SettingsFit l x n h k)) (take-all (length ws - settingsAt) (drop settingsAt ws) (omega (arith, length-drop settingsAt ws))) s
 
+-- the first k words as a list of their own
 taken-low : {n : ℕ} (k : ℕ) (ws : List ℕ) → k ≤ length ws → Below ws k n → Below (take k ws) (length (take k ws)) n
 taken-low k ws w f i h =
     let e = length-take-le k ws w in
@@ -40,36 +41,36 @@ module _ {ws recency order : List ℕ} {n k l : ℕ} (few : n ≤ mostRows) (a :
     recency-is : numbers recency ≡ take k recency
     recency-is = numbers-are few a (below-of few a (f .recencyRun))
 
-    order-is : numbers order ≡ take l order
-    order-is = numbers-are few b (below-of few b (f .orderRun))
-
     order-at : (i : ℕ) → i < l → getD (numbers order) i 0 ≡ getD order i 0
-    order-at i h = ap (λ (w : List ℕ). getD w i 0) order-is ∙ getD-take l order i 0 h
+    order-at i h = ap (λ (w : List ℕ). getD w i 0) (numbers-are few b (below-of few b (f .orderRun))) ∙ getD-take l order i 0 h
 
     pub order-of : OrderFits ws order l n
     order-of =
         let e : length (numbers order) ≡ l = length-is few b (f .orderRun) in
         record {
           below = below-of few b (f .orderRun);
-          first = λ h. rw (order-at 0 h) at (sym (f .inOrder (getD (numbers order) 0 0) (f .orderRun .below 0 (omega arith))) ∙ elem-getD (numbers order) 0 (omega arith));
+          first = λ h. rw (order-at 0 h) at (sym (f .inOrder (getD (numbers order) 0 0) (f .orderRun .below 0 (omega arith))) ∙ elem-at 0 (numbers order) (omega arith));
           rises = λ i h. rw (order-at i (omega arith), order-at (i + 1) h) at (f .rises i (omega arith));
           notOnes = λ i h. f .notOnes (getD order i 0) (below-of few b (f .orderRun) i h);
         }
 
-    pub counted-of : {listed : List Bool} → ((x : ℕ) → getD listed x false ≡ elem x (take k recency)) → CountedRows ws n listed l k
-    counted-of {listed} p = record {
-      rows = λ r h. record { fits = f .rows r h; mark = p r ∙ ap (elem r) (sym recency-is) ∙ f .inRecency r h };
-      used =
-          tally-same (usedAt ws) (λ r. elem r (numbers order)) n (λ r h. sym (f .inOrder r h))
-          ∙ tally-full n (numbers order) (f .orderRun .below) (f .orderRun .once) ∙ length-is few b (f .orderRun);
-      marked =
-          tally-same (markAt listed) (λ r. elem r (numbers recency)) n (λ r h. p r ∙ ap (elem r) (sym recency-is))
-          ∙ tally-full n (numbers recency) (f .recencyRun .below) (f .recencyRun .once) ∙ length-is few a (f .recencyRun);
-    }
+    pub counted-of : {listed : List Bool} → ((x : ℕ) → markAt listed x ≡ elem x (take k recency)) → CountedRows ws n listed l k
+    counted-of {listed} p =
+        let q : (x : ℕ) → markAt listed x ≡ elem x (numbers recency) = λ x. p x ∙ ap (elem x) (sym recency-is) in
+        record {
+          rows = λ r h. rw (q r) (f .rows r h);
+          used =
+              tally-same (usedAt ws) (λ r. elem r (numbers order)) n (λ r h. sym (f .inOrder r h))
+              ∙ tally-full n (numbers order) (f .orderRun .below) (f .orderRun .once) ∙ length-is few b (f .orderRun);
+          marked =
+              tally-same (markAt listed) (λ r. elem r (numbers recency)) n (λ r h. q r)
+              ∙ tally-full n (numbers recency) (f .recencyRun .below) (f .recencyRun .once) ∙ length-is few a (f .recencyRun);
+        }
 
   -- ---- to parts that fit
 
-  module _ {listed : List Bool} (p : (x : ℕ) → getD listed x false ≡ elem x (take k recency)) (u : Below recency k n) (m : CountedRows ws n listed l k) where
+  module _ {listed : List Bool} (p : (x : ℕ) → markAt listed x ≡ elem x (take k recency)) (u : Below recency k n) (m : CountedRows ws n listed l k) where
+    -- as many rows are marked as there are words
     recency-once : twice (take k recency) ≡ false
     recency-once =
         tally-once n (take k recency) (taken-low k recency (a .within) u)
@@ -80,7 +81,7 @@ module _ {ws recency order : List ℕ} {n k l : ℕ} (few : n ≤ mostRows) (a :
       named = take l order
 
       abbrev key : ℕ → ℕ
-      key r = getD ws (rowAt r) 0
+      key r = wordsAt ws r .address
 
       named-length : length named ≡ l
       named-length = length-take-le l order (b .within)
@@ -93,35 +94,43 @@ module _ {ws recency order : List ℕ} {n k l : ℕ} (few : n ≤ mostRows) (a :
           let e = named-length in
           rw (named-at i (omega arith), named-at (i + 1) (omega arith)) (v .rises i (omega arith))
 
-      -- a free row has address 0, above which the others are
+      named-once : twice named ≡ false
+      named-once = rising-once key named named-rise
+
+      -- a row with an address above another's is not free
       place-used : (i : ℕ) → i < l → usedAt ws (getD order i 0) ≡ true
       place-used zero h = v .first h
       place-used (suc i) h =
           let r = getD order (suc i) 0 in
           let e : i + 1 ≡ suc i = omega arith in
           let g : key (getD order i 0) < key r = rw e at (v .rises i (omega arith)) in
-          ap not (ne-eqb (getD ws (rowAt r + 1) 0) 0 (λ (q : getD ws (rowAt r + 1) 0 ≡ 0). omega (arith, m .rows r (v .below (suc i) h) .fits .free q .address)))
+          fits-used (m .rows r (v .below (suc i) h)) (λ (q : key r ≡ 0). omega arith)
 
+      -- a row that is named stands at a place
+      named-used : (r : ℕ) → elem r named ≡ true → usedAt ws r ≡ true
+      named-used r q =
+          let t = at named r q in
+          let h : t .place < l = omega (arith, t .low, named-length) in
+          rw (← t .is, named-at (t .place) h) (place-used (t .place) h)
+
+      -- as many rows are used as are named
       in-order : (r : ℕ) → r < n → elem r named ≡ usedAt ws r
       in-order =
-          tally-all (λ r. elem r named) (usedAt ws) n
-          (λ r h q. let t = at named r q in rw (← t .is, named-at (t .place) (omega (arith, t .low, named-length))) (place-used (t .place) (omega (arith, t .low, named-length))))
-          (tally-full n named (taken-low l order (b .within) (v .below)) (rising-once key named named-rise) ∙ named-length ∙ sym (m .used))
+          tally-all (λ r. elem r named) (usedAt ws) n (λ r h. named-used r)
+          (tally-full n named (taken-low l order (b .within) (v .below)) named-once ∙ named-length ∙ sym (m .used))
 
       not-ones : (r : ℕ) → r < n → key r ≡ ones → ⊥
       not-ones r h q =
-          split (usedAt ws r)
-          (λ t. let z = at named r (in-order r h ∙ t) in
-          v .notOnes (z .place) (omega (arith, z .low, named-length)) (rw (← named-at (z .place) (omega (arith, z .low, named-length)), z .is) q))
-          (λ t. omega (arith, m .rows r h .fits .free (eqb-true (getD ws (rowAt r + 1) 0) 0 (not-false _ t)) .address))
+          let t = at named r (in-order r h ∙ fits-used (m .rows r h) (λ (z : key r ≡ 0). omega arith)) in
+          let j : t .place < l = omega (arith, t .low, named-length) in
+          v .notOnes (t .place) j (rw (← named-at (t .place) j, t .is) q)
 
       pub parts-fit : PartsFit ws recency order n
       parts-fit = record {
         recencyRun = run-fits few a u recency-once;
-        orderRun = run-fits few b (v .below) (rising-once key named named-rise);
-        rows = λ r h. m .rows r h .fits;
+        orderRun = run-fits few b (v .below) named-once;
+        rows = λ r h. rw (numbers-are few a u, ← p r) (m .rows r h);
         notOnes = not-ones;
-        inRecency = λ r h. ap (elem r) (numbers-are few a u) ∙ sym (p r) ∙ m .rows r h .mark;
         inOrder = λ r h. ap (elem r) (numbers-are few b (v .below)) ∙ in-order r h;
         rises = rw (numbers-are few b (v .below)) named-rise;
       }

@@ -1,9 +1,9 @@
 -- What a test says, and what a failed test rules out.
 use Prim.Native.Nat.{ℕ, _≤_}
 use mathlib.Core.Path.{_≡_, refl, sym, _∙_}
-use mathlib.Core.Bool.{Bool, true, false, not, _&&_, Bool·beq, false≢true}
+use mathlib.Core.Bool.{Bool, true, false, _&&_, Bool·beq, false≢true}
 use lib.Dec.{eqb, leb}
-use borrow.Author.Tests.{eqb-true, eq-eqb, leb-true, le-leb}
+use borrow.Author.Tests.{eqb-true, eqb-false, eq-eqb, leb-true, le-leb, not-true, not-false}
 use Rattle.rules.proofs.Tests.{both}
 use Rattle.judge.specs.Fits.{Says}
 
@@ -31,27 +31,27 @@ module _ {P : Type 0} where
   pub denies : {r : Bool} → Says r P → r ≡ false → P → ⊥
   denies {r} s e p = no r e (s .complete p)
 
--- ---- tests joined
+-- ---- tests joined by &
 
-module _ {P Q : Type 0} where
-  pub says-and : {r s : Bool} → Says r P → Says s Q → Says (r && s) (P × Q)
-  says-and {r} {s} p q = record {
-    sound = λ e. let b = both r s e in (p .sound (b .0), q .sound (b .1));
-    complete = λ d. rw (p .complete (d .0), q .complete (d .1));
-  }
+pub first : (a b : Bool) → a && b ≡ true → a ≡ true
+first a b e = both a b e .0
 
-pub says-most : (a b : ℕ) → Says (leb a b) (a ≤ b)
-says-most a b = says-leb a b (λ h. h) (λ h. h)
+pub second : (a b : Bool) → a && b ≡ true → b ≡ true
+second a b e = both a b e .1
 
-pub says-zero : (a : ℕ) → Says (eqb a 0) (a ≡ 0)
-says-zero a = says-eqb a 0 (λ h. h) (λ h. h)
+-- what a test tells, and each of those joined
+pub ruleset told = (first, second, not-true, not-false, eqb-true, eqb-false, leb-true)
 
-pub says-off : (b : Bool) → Says (not b) (b ≡ false)
-says-off true = says-no (λ e. no _ e refl)
-says-off false = says-yes refl
+-- ---- two tests compared
 
-pub says-same : (a b : Bool) → Says (Bool·beq a b) (a ≡ b)
-says-same true true = says-yes refl
-says-same true false = says-no (λ e. no _ e refl)
-says-same false true = says-no (λ e. no _ refl e)
-says-same false false = says-yes refl
+pub same : (a b : Bool) → Bool·beq a b ≡ true → a ≡ b
+same true true e = refl
+same true false e = no _ refl e
+same false true e = no _ refl e
+same false false e = refl
+
+pub alike : (a b : Bool) → a ≡ b → Bool·beq a b ≡ true
+alike true true e = refl
+alike true false e = no _ e refl
+alike false true e = no _ refl e
+alike false false e = refl

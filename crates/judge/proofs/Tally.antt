@@ -14,19 +14,12 @@ use Rattle.rules.specs.Addresses.{elem, twice}
 use Rattle.rules.proofs.Tests.{split, neither}
 use Rattle.settings_words.specs.Words.{flagWord}
 use Rattle.judge.specs.Fits.{Below, tally}
+use Rattle.judge.proofs.RowWords.{flag-low}
 use Rattle.judge.proofs.Names.{both}
-
-pub tally-none : (f : ℕ → Bool) → tally f 0 ≡ 0
-unfolding tally
-tally-none f = refl
 
 pub tally-on : (f : ℕ → Bool) (n : ℕ) → tally f (n + 1) ≡ tally f n + flagWord (f n)
 unfolding tally
 tally-on f n = rw add-one
-
-pub word-low : (b : Bool) → flagWord b ≤ 1
-word-low true = omega arith
-word-low false = omega arith
 
 word-less : (a b : Bool) → (a ≡ true → b ≡ true) → flagWord a ≤ flagWord b
 word-less true b h = rw (h refl) (omega arith)
@@ -35,7 +28,7 @@ word-less false b h = omega arith
 pub tally-low : (f : ℕ → Bool) (n : ℕ) → tally f n ≤ n
 unfolding tally
 tally-low f zero = omega arith
-tally-low f (suc n) = omega (arith, tally-low f n, word-low (f n))
+tally-low f (suc n) = omega (arith, tally-low f n, flag-low (f n))
 
 pub tally-same : (f g : ℕ → Bool) (n : ℕ) → ((r : ℕ) → r < n → f r ≡ g r) → tally f n ≡ tally g n
 unfolding tally
@@ -94,7 +87,7 @@ module _ (n : ℕ) where
   unfolding elem
   tally-few [] h = omega (arith, empty n)
   tally-few (x ∷ xs) h =
-      omega (arith, tally-cons x xs h, tally-few xs (λ i k. h (suc i) (omega arith)), word-low (not (elem x xs)))
+      omega (arith, tally-cons x xs h, tally-few xs (λ i k. h (suc i) (omega arith)), flag-low (not (elem x xs)))
 
   pub tally-full : (xs : List ℕ) → Below xs (length xs) n → twice xs ≡ false → tally (λ r. elem r xs) n ≡ length xs
   unfolding elem twice

@@ -11,6 +11,7 @@ use Rattle.rules.specs.Addresses.{elem, twice}
 use Rattle.rules.specs.Limits.{mostRows, mostSize, mostIdle, mostThreshold, countStop}
 use Rattle.layout.specs.Layout.{ones, version, settingsAt, headerWords, rowAt, recencyAt, addressesAt, layoutWords}
 use Rattle.layout.specs.Picture.{run, runOf}
+use Rattle.judge.specs.declared.row.RowWords.{RowWords}
 
 -- r says whether P holds.
 pub record Says (r : Bool) (P : Type 0) : Type 0 where
@@ -41,76 +42,61 @@ pub record SettingsFit (ws : List ℕ) (x n h k : ℕ) : Type 0 where
   pub picture : picture ws ≡ true
   pub figures : FiguresFit x n h k (getD ws 4 0) (getD ws 5 0) (getD ws 6 0)
 
--- ---- a row: address, size, dirty, idle, pinned, hold
+-- ---- a row
 
--- The words of a free row but its size.
-pub record FreeFits (a d i p h : ℕ) : Type 0 where
-  pub address : a ≡ 0
-  pub dirty : d ≡ 0
-  pub idle : i ≡ 0
-  pub pinned : p ≡ 0
-  pub hold : h ≡ 0
+-- The words of row r.
+abbrev pub wordsAt : List ℕ → ℕ → RowWords
+wordsAt ws r = record {
+  address = getD ws (rowAt r) 0;
+  size = getD ws (rowAt r + 1) 0;
+  dirty = getD ws (rowAt r + 2) 0;
+  idle = getD ws (rowAt r + 3) 0;
+  pinned = getD ws (rowAt r + 4) 0;
+  hold = getD ws (rowAt r + 5) 0;
+}
 
--- The words of an entry but its address.
-pub record EntryFits (s d i p h : ℕ) : Type 0 where
-  pub size : s ≤ mostSize
-  pub dirty : d ≤ 1
-  pub idle : i ≤ mostIdle
-  pub pinned : p ≤ 1
-  pub hold : h ≤ 65_536
+-- All words of a free row are 0, and it is not listed.
+pub record FreeFits (w : RowWords) (listed : Bool) : Type 0 where
+  pub unlisted : listed ≡ false
+  pub address : w .address ≡ 0
+  pub size : w .size ≡ 0
+  pub dirty : w .dirty ≡ 0
+  pub idle : w .idle ≡ 0
+  pub pinned : w .pinned ≡ 0
+  pub hold : w .hold ≡ 0
 
--- A row of size 0 is free.
-pub record RowFits (a s d i p h : ℕ) : Type 0 where
-  pub free : s ≡ 0 → FreeFits a d i p h
-  pub used : (s ≡ 0 → ⊥) → EntryFits s d i p h
+pub record SizeFits (s : ℕ) : Type 0 where
+  pub some : s ≡ 0 → ⊥
+  pub most : s ≤ mostSize
 
--- Row r of a table.
-abbrev pub FitsAt : List ℕ → ℕ → Type 0
-FitsAt ws r =
-    RowFits (getD ws (rowAt r) 0) (getD ws (rowAt r + 1) 0) (getD ws (rowAt r + 2) 0) (getD ws (rowAt r + 3) 0) (getD ws (rowAt r + 4) 0)
-    (getD ws (rowAt r + 5) 0)
+-- The words of an entry but its address, and whether it is listed.
+pub record EntryFits (w : RowWords) (listed : Bool) : Type 0 where
+  pub size : SizeFits (w .size)
+  pub dirty : w .dirty ≤ 1
+  pub idle : w .idle ≤ mostIdle
+  pub pinned : w .pinned ≤ 1
+  pub hold : w .hold ≤ 65_536
+  pub loose : listed ≡ (eqb (w .hold) 0 && eqb (w .pinned) 0)
 
--- Whether a row is used, and whether it stands in the recency list, by its words.
+pub data RowFits (w : RowWords) (listed : Bool) : Type 0 where
+  free : FreeFits w listed → RowFits w listed
+  entry : EntryFits w listed → RowFits w listed
+
+-- Whether row r is used, and whether it is marked.
 abbrev pub usedAt : List ℕ → ℕ → Bool
-usedAt ws r = flagOf (getD ws (rowAt r + 1) 0)
+usedAt ws r = flagOf (wordsAt ws r .size)
 
-abbrev pub listedWords : ℕ → ℕ → ℕ → Bool
-listedWords s p h = flagOf s && eqb h 0 && eqb p 0
-
-abbrev pub listedAt : List ℕ → ℕ → Bool
-listedAt ws r = listedWords (getD ws (rowAt r + 1) 0) (getD ws (rowAt r + 4) 0) (getD ws (rowAt r + 5) 0)
-
--- Whether a row is marked as one that the recency run names.
 abbrev pub markAt : List Bool → ℕ → Bool
 markAt listed r = getD listed r false
-
--- A free row, with its mark.
-pub record FreeRow (a s d i p h : ℕ) (listed : Bool) : Type 0 where
-  pub size : s ≡ 0
-  pub fits : FreeFits a d i p h
-  pub mark : listed ≡ false
-
--- The words of an entry but its address and size, with its mark.
-pub record EntryRow (d i p h : ℕ) (listed : Bool) : Type 0 where
-  pub dirty : d ≤ 1
-  pub pinned : p ≤ 1
-  pub idle : i ≤ mostIdle
-  pub hold : h ≤ 65_536
-  pub mark : listed ≡ (eqb h 0 && eqb p 0)
-
--- A row that fits, with its mark.
-pub record MarkedRow (ws : List ℕ) (listed : List Bool) (r : ℕ) : Type 0 where
-  pub fits : FitsAt ws r
-  pub mark : markAt listed r ≡ listedAt ws r
 
 -- How many numbers below n pass a test.
 unfoldable pub tally : (ℕ → Bool) → ℕ → ℕ
 tally test zero = 0
 tally test (suc n) = tally test n + flagWord (test n)
 
--- n rows that fit, of which k are used and l are marked.
+-- n rows that fit, the marked ones as listed; k are used and l are marked.
 pub record CountedRows (ws : List ℕ) (n : ℕ) (listed : List Bool) (k l : ℕ) : Type 0 where
-  pub rows : (r : ℕ) → r < n → MarkedRow ws listed r
+  pub rows : (r : ℕ) → r < n → RowFits (wordsAt ws r) (markAt listed r)
   pub used : tally (usedAt ws) n ≡ k
   pub marked : tally (markAt listed) n ≡ l
 
@@ -138,14 +124,14 @@ pub record Marked (r : Bool) (ws : List ℕ) (k n : ℕ) (seen : List Bool) : Ty
 
 -- The first k words of a run lead to rising addresses.
 abbrev pub Rises : List ℕ → List ℕ → ℕ → Type 0
-Rises ws order k = (i : ℕ) → i + 1 < k → getD ws (rowAt (getD order i 0)) 0 < getD ws (rowAt (getD order (i + 1) 0)) 0
+Rises ws order k = (i : ℕ) → i + 1 < k → wordsAt ws (getD order i 0) .address < wordsAt ws (getD order (i + 1) 0) .address
 
 -- The first k words of the address run are numbers of rows, of n, with rising addresses, none of them all ones; the first row is used.
 pub record OrderFits (ws order : List ℕ) (k n : ℕ) : Type 0 where
   pub below : Below order k n
   pub first : 0 < k → usedAt ws (getD order 0 0) ≡ true
   pub rises : Rises ws order k
-  pub notOnes : (i : ℕ) → i < k → getD ws (rowAt (getD order i 0)) 0 ≡ ones → ⊥
+  pub notOnes : (i : ℕ) → i < k → wordsAt ws (getD order i 0) .address ≡ ones → ⊥
 
 -- ---- the parts together
 
@@ -163,9 +149,8 @@ pub record RunFits (ws : List ℕ) (n : ℕ) : Type 0 where
 pub record PartsFit (ws recency order : List ℕ) (n : ℕ) : Type 0 where
   pub recencyRun : RunFits recency n
   pub orderRun : RunFits order n
-  pub rows : (r : ℕ) → r < n → FitsAt ws r
-  pub notOnes : (r : ℕ) → r < n → getD ws (rowAt r) 0 ≡ ones → ⊥
-  pub inRecency : (r : ℕ) → r < n → elem r (numbers recency) ≡ listedAt ws r
+  pub rows : (r : ℕ) → r < n → RowFits (wordsAt ws r) (elem r (numbers recency))
+  pub notOnes : (r : ℕ) → r < n → wordsAt ws r .address ≡ ones → ⊥
   pub inOrder : (r : ℕ) → r < n → elem r (numbers order) ≡ usedAt ws r
   pub rises : Rises ws (numbers order) (length (numbers order))
 
