@@ -6,7 +6,7 @@ pub mod RowWords
 pub mod Names
 pub mod Tally
 pub mod Counting
-pub mod Climbing
+pub mod Ascending
 pub mod Numbered
 pub mod TableWords
 pub mod OwnWords

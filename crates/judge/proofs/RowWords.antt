@@ -75,8 +75,8 @@ module _ {w : RowWords} {m : Bool} where
   sized f = ne-eqb (w .size) 0 (f .size .some)
 
   pub row-listed : RowFits w m → testRow isListed (rowOf (entryBy w)) ≡ m
-  row-listed (free f) = rw (f .size, f .unlisted)
-  row-listed (entry f) = rw (sized f, held-word (w .hold), not-not, f .loose)
+  row-listed (free f) = rw (f .size, f .listing)
+  row-listed (entry f) = rw (sized f, held-word (w .hold), not-not, f .listing)
 
   pub row-forth : RowFits w m → rowWords (rowOf (entryBy w)) ≡ listBy w
   row-forth (free f) = rw (f .address, f .size, f .dirty, f .idle, f .pinned, f .hold)
@@ -128,14 +128,14 @@ hold-free (Readers n) f = ne-eqb n 0 (λ (e : n ≡ 0). omega arith)
 hold-free Writer f = refl
 
 pub own-fits : (x : Row) → RowAllowed x → RowFits (wordsOf x) (testRow isListed x)
-own-fits Free f = free (record { unlisted = refl; address = refl; size = refl; dirty = refl; idle = refl; pinned = refl; hold = refl })
+own-fits Free f = free (record { listing = refl; address = refl; size = refl; dirty = refl; idle = refl; pinned = refl; hold = refl })
 own-fits (Used e) f = entry (record {
   size = record { some = λ (q : e .size ≡ 0). let h = f .nonempty in omega arith; most = f .size };
   dirty = flag-low (e .dirty);
   idle = f .idle;
   pinned = flag-low (e .pinned);
   hold = hold-low (e .hold) (f .hold);
-  loose = rw (hold-free (e .hold) (f .hold), flag-free (e .pinned));
+  listing = rw (hold-free (e .hold) (f .hold), flag-free (e .pinned));
 })
 
 pub own-used : (x : Row) → RowAllowed x → flagOf (wordsOf x .size) ≡ testRow (λ e. true) x

@@ -57,7 +57,7 @@ wordsAt ws r = record {
 
 -- All words of a free row are 0, and it is not listed.
 pub record FreeFits (w : RowWords) (listed : Bool) : Type 0 where
-  pub unlisted : listed ≡ false
+  pub listing : listed ≡ false
   pub address : w .address ≡ 0
   pub size : w .size ≡ 0
   pub dirty : w .dirty ≡ 0
@@ -69,14 +69,14 @@ pub record SizeFits (s : ℕ) : Type 0 where
   pub some : s ≡ 0 → ⊥
   pub most : s ≤ mostSize
 
--- The words of an entry but its address, and whether it is listed.
+-- The words of an entry but its address. It is listed if it is neither held nor pinned.
 pub record EntryFits (w : RowWords) (listed : Bool) : Type 0 where
   pub size : SizeFits (w .size)
   pub dirty : w .dirty ≤ 1
   pub idle : w .idle ≤ mostIdle
   pub pinned : w .pinned ≤ 1
   pub hold : w .hold ≤ 65_536
-  pub loose : listed ≡ (eqb (w .hold) 0 && eqb (w .pinned) 0)
+  pub listing : listed ≡ (eqb (w .hold) 0 && eqb (w .pinned) 0)
 
 pub data RowFits (w : RowWords) (listed : Bool) : Type 0 where
   free : FreeFits w listed → RowFits w listed
@@ -94,7 +94,7 @@ unfoldable pub tally : (ℕ → Bool) → ℕ → ℕ
 tally test zero = 0
 tally test (suc n) = tally test n + flagWord (test n)
 
--- n rows that fit, the marked ones as listed; k are used and l are marked.
+-- n rows that fit, the marked ones as listed, of which k are used and l are marked.
 pub record CountedRows (ws : List ℕ) (n : ℕ) (listed : List Bool) (k l : ℕ) : Type 0 where
   pub rows : (r : ℕ) → r < n → RowFits (wordsAt ws r) (markAt listed r)
   pub used : tally (usedAt ws) n ≡ k

@@ -1,4 +1,4 @@
-// One row by its words.
+// One row: its words, and whether a free row or an entry may have them.
 ghost use mathlib.Core.Path.{_≡_};
 ghost use Prim.Native.Nat.{_+_, _≤_};
 ghost use lib.ListN.{length};
@@ -14,6 +14,7 @@ const MOST_IDLE: u64 = 10;
 // The hold word of a writer.
 const WRITER: u64 = 65536;
 
+// The words of a row, in their order.
 pub struct RowWords {
     pub address: u64,
     pub size: u64,
@@ -58,7 +59,8 @@ pub fn free_allowed(row: RowWords, listed: bool) -> bool
         & (row.hold == 0)
 }
 
-// A row with the size of an entry: its other words but the address, and whether it is listed.
+// A row with the size of an entry: its other words but the address, which is judged along the address
+// run. It is listed if it is neither held nor pinned.
 pub fn entry_allowed(row: RowWords, listed: bool) -> bool
     requires { ⌜ SizeFits (row .size) ⌝ }
     ensures { λ r. ⌜ Says r (EntryFits row listed) ⌝ }

@@ -33,10 +33,8 @@ pub fn rows_allowed(
                 return false;
             }
             entries += 1;
-        } else {
-            if !free_allowed(row, mark) {
-                return false;
-            }
+        } else if !free_allowed(row, mark) {
+            return false;
         }
         marks += flag_word(mark) as usize;
         i += 1;

@@ -19,9 +19,9 @@ returns-2 c =
         idle = search (t, told);
         pinned = search (t, told);
         hold = search (t, told);
-        loose = search same;
+        listing = search same;
       };
-      complete = λ p. alike _ _ (p .loose);
+      complete = λ p. alike _ _ (p .listing);
     }
 
 pub entry-allowed-spec : {M : Type 1} → statement M

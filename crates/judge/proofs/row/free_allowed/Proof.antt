@@ -6,7 +6,7 @@ use Rattle.judge.proofs.row.free_allowed.Tie as tie
 returns : tie.Need-returns
 returns c = record {
   sound = λ e. search told;
-  complete = λ p. rw (p .unlisted, p .address, p .size, p .dirty, p .idle, p .pinned, p .hold);
+  complete = λ p. rw (p .listing, p .address, p .size, p .dirty, p .idle, p .pinned, p .hold);
 }
 
 pub free-allowed-spec : {M : Type 1} → statement M

@@ -1,4 +1,4 @@
--- `addresses_rise` says whether the words lead to rising addresses. The invariant is `Climbed`: so it is up to the word at hand.
+-- `addresses_rise` says whether the words lead to rising addresses. The invariant is `Kept`: so it is up to the word at hand.
 use Prim.Native.Nat.{_-_}
 use mathlib.Core.Path.{ap}
 use native.Mathlib.Omega.{arith}
@@ -6,12 +6,12 @@ use borrow.Author.Tests.{ne-eqb}
 use borrow.Author.Needs.{needs}
 use Rattle.judge.specs.declared.row.RowWords.{RowWords}
 use Rattle.judge.proofs.Says.{told}
-use Rattle.judge.proofs.Climbing.{Climbed, climbed-start, climbed-on, says-none, says-past, says-free, says-fall, climbed-end, last-fits}
+use Rattle.judge.proofs.Ascending.{Kept, kept-start, kept-on, says-none, says-past, says-free, says-fall, kept-end, last-fits}
 use Rattle.judge.proofs.runs.addresses_rise.Statement.{statement}
 use Rattle.judge.proofs.runs.addresses_rise.Tie as tie
 
 abbrev Inv-loop : tie.InvT-loop
-Inv-loop table rows order n lowest last₀ i₀ last i = Climbed table order n rows last i
+Inv-loop table rows order n lowest last₀ i₀ last i = Kept table order n rows last i
 
 abbrev μ-loop : tie.MeasureT-loop
 μ-loop table rows order n lowest last₀ i₀ last i = n - i
@@ -32,7 +32,7 @@ returns-3 : tie.Need-returns-3 Inv-loop μ-loop
 returns-3 c = says-free _ _ _ _ (omega arith) (omega (arith, ap (λ (w : RowWords). w .size) (c .before .before .words-at .ensures)))
 
 loop-holds : tie.Need-loop-holds Inv-loop μ-loop
-loop-holds c = rw (c .before .before .words-at .ensures) (climbed-start _ _ _ _ (omega arith) (omega arith) (λ q. omega (arith, ap (λ (w : RowWords). w .size) (c .before .before .words-at .ensures))))
+loop-holds c = rw (c .before .before .words-at .ensures) (kept-start _ _ _ _ (omega arith) (omega arith) (λ q. omega (arith, ap (λ (w : RowWords). w .size) (c .before .before .words-at .ensures))))
 
 mul-higher : tie.Need-mul-higher Inv-loop μ-loop
 mul-higher c = search needs
@@ -56,11 +56,11 @@ loop-less : tie.Need-loop-less Inv-loop μ-loop
 loop-less c = search needs
 
 loop-again : tie.Need-loop-again Inv-loop μ-loop
-loop-again c = rw (c .before .before .words-at2 .ensures) (climbed-on _ _ _ _ (c .before .before .before .before .before .before .loop .inv) (omega arith) (omega arith) (omega (arith, ap (λ (w : RowWords). w .address) (c .before .before .words-at2 .ensures))))
+loop-again c = rw (c .before .before .words-at2 .ensures) (kept-on _ _ _ _ (c .before .before .before .before .before .before .loop .inv) (omega arith) (omega arith) (omega (arith, ap (λ (w : RowWords). w .address) (c .before .before .words-at2 .ensures))))
 
 returns-6 : tie.Need-returns-6 Inv-loop μ-loop
 returns-6 c = record {
-  sound = λ t. climbed-end _ _ _ _ (c .before .loop .inv) (omega arith) (λ j. omega (arith, c .before .before .before .before .before .before .before .before .before .shared-slice-known .given j)) (search told);
+  sound = λ t. kept-end _ _ _ _ (c .before .loop .inv) (omega arith) (λ j. omega (arith, c .before .before .before .before .before .before .before .before .before .shared-slice-known .given j)) (search told);
   complete = λ p. rw (ne-eqb _ _ (last-fits _ _ _ _ (c .before .loop .inv) (omega arith) p));
 }
 

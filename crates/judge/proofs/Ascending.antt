@@ -22,8 +22,8 @@ module _ (ws order : List ℕ) (n rows : ℕ) where
   abbrev pub addressBy : ℕ → ℕ
   addressBy i = wordsAt ws (named i) .address
 
-  -- the first i words fit, but that an address may be all ones; the last of these addresses is at hand
-  pub record Climbed (last i : ℕ) : Type 0 where
+  -- the first i words fit, but that the last of their addresses, which is at hand, may be all ones
+  pub record Kept (last i : ℕ) : Type 0 where
     pub some : 1 ≤ i
     pub low : i ≤ n
     pub below : Below order i rows
@@ -31,8 +31,8 @@ module _ (ws order : List ℕ) (n rows : ℕ) where
     pub rises : Rises ws order i
     pub top : last ≡ addressBy (i - 1)
 
-  pub climbed-start : 0 < n → named 0 < rows → (wordsAt ws (named 0) .size ≡ 0 → ⊥) → Climbed (addressBy 0) 1
-  climbed-start h b s = record {
+  pub kept-start : 0 < n → named 0 < rows → (wordsAt ws (named 0) .size ≡ 0 → ⊥) → Kept (addressBy 0) 1
+  kept-start h b s = record {
     some = omega arith;
     low = omega arith;
     below = λ j l. let e : j ≡ 0 = omega arith in rw e b;
@@ -55,9 +55,9 @@ module _ (ws order : List ℕ) (n rows : ℕ) where
   pub says-free : 0 < n → wordsAt ws (named 0) .size ≡ 0 → Says false (OrderFits ws order n rows)
   says-free h e = says-no (λ p. eqb-false _ _ (not-true _ (p .first h)) e)
 
-  module _ {last i : ℕ} (k : Climbed last i) where
-    pub climbed-on : i < n → named i < rows → last < addressBy i → Climbed (addressBy i) (i + 1)
-    climbed-on h b g =
+  module _ {last i : ℕ} (k : Kept last i) where
+    pub kept-on : i < n → named i < rows → last < addressBy i → Kept (addressBy i) (i + 1)
+    kept-on h b g =
         let t = k .top in let s = k .some in
         record {
           some = omega arith;
@@ -76,8 +76,8 @@ module _ (ws order : List ℕ) (n rows : ℕ) where
         says-no (λ p. let r : addressBy (i - 1) < addressBy i = rw e at (p .rises (i - 1) (omega arith)) in omega (arith, k .top))
 
     -- no word is above all ones, so an address that is all ones is the last
-    pub climbed-end : n ≤ i → ((j : ℕ) → getD ws j 0 ≤ ones) → (last ≡ ones → ⊥) → OrderFits ws order n rows
-    climbed-end h most q =
+    pub kept-end : n ≤ i → ((j : ℕ) → getD ws j 0 ≤ ones) → (last ≡ ones → ⊥) → OrderFits ws order n rows
+    kept-end h most q =
         let e : i ≡ n = let l = k .low in omega arith in
         record {
           below = rw e at (k .below);
