@@ -96,7 +96,7 @@ module _ {w : RowWords} {m : Bool} where
   row-address (free f) = rw (f .size, f .address)
   row-address (entry f) = rw (sized f)
 
-  -- only a free row's address may be 0
+  -- a row with an address above 0 is not free
   pub fits-used : RowFits w m → (w .address ≡ 0 → ⊥) → flagOf (w .size) ≡ true
   fits-used (free f) h = absurd (h (f .address))
   fits-used (entry f) h = rw (sized f)

@@ -2,8 +2,8 @@
 use Prim.Native.Nat.{ℕ, _≤_}
 use mathlib.Core.Path.{_≡_, refl, sym, _∙_}
 use mathlib.Core.Bool.{Bool, true, false, _&&_, Bool·beq, false≢true}
-use lib.Dec.{eqb, leb}
-use borrow.Author.Tests.{eqb-true, eqb-false, eq-eqb, leb-true, le-leb, not-true, not-false}
+use lib.Dec.{leb}
+use borrow.Author.Tests.{eqb-true, eqb-false, leb-true, le-leb, not-true, not-false}
 use Rattle.rules.proofs.Tests.{both}
 use Rattle.judge.specs.Fits.{Says}
 
@@ -18,9 +18,6 @@ module _ {P : Type 0} where
   says-yes p = record { sound = λ e. p; complete = λ e. refl }
 
   -- a last test, by which P comes out
-  pub says-eqb : (a b : ℕ) → (a ≡ b → P) → (P → a ≡ b) → Says (eqb a b) P
-  says-eqb a b f g = record { sound = λ e. f (eqb-true a b e); complete = λ p. eq-eqb a b (g p) }
-
   pub says-leb : (a b : ℕ) → (a ≤ b → P) → (P → a ≤ b) → Says (leb a b) P
   says-leb a b f g = record { sound = λ e. f (leb-true a b e); complete = λ p. le-leb a b (g p) }
 
