@@ -1,6 +1,9 @@
 // Judging a table: the proved function beside the same checks written by hand, in one run.
 //
-// First both judge damaged small tables and must agree; then each is timed on an allowed table whose
+// By hand there are two ways, which differ in the rows and the runs: counting, as the proved function
+// does, and marking, which marks the rows that each run names and looks for a row named twice.
+//
+// First all three judge damaged tables and must agree; then each is timed on an allowed table whose
 // rows are all used, an eighth of them pinned and an eighth held: the best of 21 rounds.
 use std::hint::black_box;
 use std::time::Instant;
@@ -20,6 +23,7 @@ fn proved_judge(table: &[u64]) -> bool {
 // ---- the same checks by hand
 
 const HEADER: usize = 29;
+const WIDTH: usize = 6;
 const VERSION: u64 = 0x5350_4c44_5654_0001;
 const ONES: u64 = u64::MAX;
 
@@ -67,7 +71,7 @@ fn settings_allowed(w: &[u64]) -> Option<()> {
         0 if zero(&w[8..10]) => None,
         1 => {
             let (lower, multiplier) = (float(w[8])?, float(w[9])?);
-            if !unit(lower) || !(1.0 < multiplier && multiplier <= 2.0) {
+            if !(unit(lower) && 1.0 < multiplier && multiplier <= 2.0) {
                 return None;
             }
             Some(lower)
@@ -88,7 +92,7 @@ fn settings_allowed(w: &[u64]) -> Option<()> {
         _ => return None,
     };
     if let Some(upper) = upper {
-        if !unit(upper) || lower.is_some_and(|lower| !(lower < upper)) {
+        if !unit(upper) || lower.is_some_and(|lower| upper <= lower) {
             return None;
         }
     }
@@ -96,67 +100,157 @@ fn settings_allowed(w: &[u64]) -> Option<()> {
     (plain && (evictions == 1 || !rules)).then_some(())
 }
 
-fn row_allowed(row: &[u64; 6]) -> bool {
-    let [address, size, dirty, idle, pinned, hold] = *row;
-    if size == 0 {
-        return address == 0 && dirty == 0 && idle == 0 && pinned == 0 && hold == 0;
-    }
-    address != ONES && size <= 134_217_728 && dirty <= 1 && idle <= 10 && pinned <= 1 && hold <= 65_536
+// The words of the rows, and the two runs.
+struct Parts<'a> {
+    rows: &'a [[u64; WIDTH]],
+    recency: &'a [u64],
+    order: &'a [u64],
 }
 
-// The run before its all ones, each row number marked once.
-fn marked<'a>(run: &'a [u64], rows: usize, seen: &mut [bool; 4096]) -> Option<&'a [u64]> {
+// The run before its all ones.
+fn named(run: &[u64]) -> &[u64] {
     let length = run.iter().rposition(|w| *w != ONES).map_or(0, |at| at + 1);
-    let run = &run[..length];
-    for w in run {
-        let row = *w as usize;
-        if rows <= row || seen[row] {
-            return None;
-        }
-        seen[row] = true;
-    }
-    Some(run)
+    &run[..length]
 }
 
-fn parts_allowed(words: &[u64], recency: &[u64], order: &[u64], rows: usize) -> Option<()> {
-    let mut listed = [false; 4096];
-    let mut used = [false; 4096];
-    marked(recency, rows, &mut listed)?;
-    let order = marked(order, rows, &mut used)?;
-    let (chunks, _) = words.as_chunks::<6>();
-    for (i, row) in chunks.iter().enumerate() {
-        let [_, size, _, _, pinned, hold] = *row;
-        if !row_allowed(row) || listed[i] != (size != 0 && pinned == 0 && hold == 0) || used[i] != (size != 0) {
+mod counting {
+    use super::{named, Parts, ONES, WIDTH};
+
+    fn free_allowed(row: &[u64; WIDTH], listed: bool) -> bool {
+        !listed & row.iter().all(|w| *w == 0)
+    }
+
+    fn entry_allowed(row: &[u64; WIDTH], listed: bool) -> bool {
+        let [_, _, dirty, idle, pinned, hold] = *row;
+        if !((dirty <= 1) & (idle <= 10) & (pinned <= 1) & (hold <= 65_536)) {
+            return false;
+        }
+        listed == ((hold == 0) & (pinned == 0))
+    }
+
+    // Every row is allowed and marked if it is to be listed: how many are used, and how many are marked.
+    fn counts(rows: &[[u64; WIDTH]], listed: &[bool; 4096]) -> Option<(usize, usize)> {
+        let (mut used, mut marked) = (0, 0);
+        for (row, mark) in rows.iter().zip(listed) {
+            let size = row[1];
+            if (size != 0) & (size <= 134_217_728) {
+                if !entry_allowed(row, *mark) {
+                    return None;
+                }
+                used += 1;
+            } else if !free_allowed(row, *mark) {
+                return None;
+            }
+            marked += *mark as usize;
+        }
+        Some((used, marked))
+    }
+
+    fn addresses_rise(rows: &[[u64; WIDTH]], order: &[u64]) -> Option<bool> {
+        let Some((first, rest)) = order.split_first() else {
+            return Some(true);
+        };
+        let [mut last, size, ..] = *rows.get(*first as usize)?;
+        if size == 0 {
             return None;
         }
+        for row in rest {
+            let address = rows.get(*row as usize)?[0];
+            if address <= last {
+                return None;
+            }
+            last = address;
+        }
+        Some(last != ONES)
     }
-    let address = |row: u64| chunks[row as usize][0];
-    order
-        .windows(2)
-        .all(|pair| address(pair[0]) < address(pair[1]))
-        .then_some(())
+
+    pub fn parts_allowed(parts: &Parts) -> Option<bool> {
+        let (recency, order) = (named(parts.recency), named(parts.order));
+        let mut listed = [false; 4096];
+        for row in recency {
+            let row = *row as usize;
+            if parts.rows.len() <= row {
+                return None;
+            }
+            listed[row] = true;
+        }
+        if counts(parts.rows, &listed)? != (order.len(), recency.len()) {
+            return None;
+        }
+        addresses_rise(parts.rows, order)
+    }
 }
 
-#[inline(never)]
-fn hand_judge(table: &[u64]) -> bool {
+mod marking {
+    use super::{named, Parts, ONES, WIDTH};
+
+    fn row_allowed(row: &[u64; WIDTH]) -> bool {
+        let [address, size, dirty, idle, pinned, hold] = *row;
+        if size == 0 {
+            return address == 0 && dirty == 0 && idle == 0 && pinned == 0 && hold == 0;
+        }
+        address != ONES && size <= 134_217_728 && dirty <= 1 && idle <= 10 && pinned <= 1 && hold <= 65_536
+    }
+
+    // Each row number is marked once.
+    fn mark(run: &[u64], rows: usize, seen: &mut [bool; 4096]) -> Option<()> {
+        for w in run {
+            let row = *w as usize;
+            if rows <= row || seen[row] {
+                return None;
+            }
+            seen[row] = true;
+        }
+        Some(())
+    }
+
+    pub fn parts_allowed(parts: &Parts) -> Option<bool> {
+        let (recency, order) = (named(parts.recency), named(parts.order));
+        let (mut listed, mut used) = ([false; 4096], [false; 4096]);
+        mark(recency, parts.rows.len(), &mut listed)?;
+        mark(order, parts.rows.len(), &mut used)?;
+        for (i, row) in parts.rows.iter().enumerate() {
+            let [_, size, _, _, pinned, hold] = *row;
+            if !row_allowed(row) || listed[i] != (size != 0 && pinned == 0 && hold == 0) || used[i] != (size != 0) {
+                return None;
+            }
+        }
+        let address = |row: u64| parts.rows[row as usize][0];
+        Some(order.windows(2).all(|pair| address(pair[0]) < address(pair[1])))
+    }
+}
+
+// The header, and then the parts after it.
+fn hand_judge(table: &[u64], parts_allowed: impl Fn(&Parts) -> Option<bool>) -> bool {
     if table.len() < HEADER {
         return false;
     }
     let [version, count, mode, threshold, maximum, accesses, hits, bytes] = table[..8].try_into().unwrap();
-    if version != VERSION || count < 1 || 4096 < count || 2 < mode || threshold < 1 || 1 << 30 < threshold {
+    if version != VERSION || !(1..=4096).contains(&count) || 2 < mode || !(1..=1 << 30).contains(&threshold) {
         return false;
     }
     let rows = count as usize;
     let settings = &table[8..HEADER];
-    if table.len() < HEADER + rows * 8 || settings_allowed(settings).is_none() {
+    if table.len() < HEADER + rows * (WIDTH + 2) || settings_allowed(settings).is_none() {
         return false;
     }
     if maximum < settings[5] || settings[4] < maximum || settings[6] <= accesses || accesses < hits || 1 << 40 < bytes {
         return false;
     }
-    let (words, runs) = table[HEADER..HEADER + rows * 8].split_at(rows * 6);
+    let (words, runs) = table[HEADER..HEADER + rows * (WIDTH + 2)].split_at(rows * WIDTH);
     let (recency, order) = runs.split_at(rows);
-    parts_allowed(words, recency, order, rows).is_some()
+    let (rows, _) = words.as_chunks();
+    parts_allowed(&Parts { rows, recency, order }) == Some(true)
+}
+
+#[inline(never)]
+fn counting_judge(table: &[u64]) -> bool {
+    hand_judge(table, counting::parts_allowed)
+}
+
+#[inline(never)]
+fn marking_judge(table: &[u64]) -> bool {
+    hand_judge(table, marking::parts_allowed)
 }
 
 // ---- tables
@@ -200,44 +294,24 @@ fn settings_words(random: &mut Random) -> [u64; 21] {
 // A table of an allowed cache. With holes: small addresses, free rows, and a longer table.
 fn table(random: &mut Random, rows: usize, holes: bool) -> Vec<u64> {
     let mut t = vec![0; HEADER];
-    t[..8].copy_from_slice(&[
-        VERSION,
-        rows as u64,
-        random.below(3),
-        262_144,
-        2_097_152,
-        40_000,
-        30_000,
-        0,
-    ]);
+    t[..8].copy_from_slice(&[VERSION, rows as u64, random.below(3), 262_144, 2_097_152, 40_000, 30_000, 0]);
     t[8..].copy_from_slice(&settings_words(random));
     let mut entries: Vec<(u64, u64)> = Vec::new();
     let mut recency = Vec::new();
     for row in 0..rows as u64 {
         if holes && random.one_in(4) {
-            t.extend([0; 6]);
+            t.extend([0; WIDTH]);
             continue;
         }
         let address = loop {
-            let a = if holes {
-                random.below(3 * rows as u64)
-            } else {
-                random.next() >> 1
-            };
+            let a = if holes { random.below(3 * rows as u64) } else { random.next() >> 1 };
             if !holes || entries.iter().all(|(b, _)| *b != a) {
                 break a;
             }
         };
         let pinned = random.one_in(8) as u64;
         let hold = if random.one_in(8) { 1 + random.below(65_536) } else { 0 };
-        t.extend([
-            address,
-            1 + random.below(5_000),
-            random.below(2),
-            random.below(11),
-            pinned,
-            hold,
-        ]);
+        t.extend([address, 1 + random.below(5_000), random.below(2), random.below(11), pinned, hold]);
         entries.push((address, row));
         if pinned == 0 && hold == 0 {
             recency.push(row);
@@ -260,8 +334,12 @@ fn table(random: &mut Random, rows: usize, holes: bool) -> Vec<u64> {
 
 // ---- the run
 
-fn compare(random: &mut Random, tables: usize) {
-    let odd = [
+// Words at the edges of what a table may have.
+fn odd_words() -> [u64; 22] {
+    let (half, more) = (0.5f64.to_bits(), 1.5f64.to_bits());
+    let nan = f64::NAN.to_bits() + 1;
+    let (size, stop) = (1 << 27, 1 << 40);
+    [
         0,
         1,
         2,
@@ -275,41 +353,75 @@ fn compare(random: &mut Random, tables: usize) {
         65_535,
         65_536,
         65_537,
-        1 << 27,
-        (1 << 27) + 1,
-        1 << 40,
+        size,
+        size + 1,
+        stop,
+        1 << 63,
         ONES - 1,
         ONES,
-        0.5f64.to_bits(),
-        1.5f64.to_bits(),
-        f64::NAN.to_bits() + 1,
-        1 << 63,
-    ];
+        half,
+        more,
+        nan,
+    ]
+}
+
+// A word, a word of a run or a whole row is not what it was, or the table is shorter.
+fn damage(random: &mut Random, t: &mut Vec<u64>, rows: usize, odd: &[u64]) {
+    let any = |random: &mut Random, from: usize, to: usize| from + random.below((to - from) as u64) as usize;
+    let runs = HEADER + rows * WIDTH;
+    match random.below(8) {
+        0 => t.truncate(t.len() - random.below(5) as usize),
+        1 | 2 => {
+            let at = any(random, runs, runs + rows * 2);
+            t[at] = if random.one_in(4) { ONES } else { random.below(rows as u64 + 1) };
+        }
+        3 => {
+            let (a, b) = (any(random, runs, runs + rows * 2), any(random, runs, runs + rows * 2));
+            t.swap(a, b);
+        }
+        4 => {
+            let (row, other) = (HEADER + any(random, 0, rows) * WIDTH, HEADER + any(random, 0, rows) * WIDTH);
+            t.copy_within(other..other + WIDTH, row);
+        }
+        5 => {
+            let at = HEADER + any(random, 0, rows) * WIDTH;
+            t[at] = odd[any(random, 0, odd.len())];
+        }
+        _ => {
+            let from = if random.one_in(2) { HEADER } else { 0 };
+            let at = any(random, from, t.len());
+            let other = any(random, from, t.len());
+            t[at] = if random.one_in(3) { t[other] } else { odd[any(random, 0, odd.len())] };
+        }
+    }
+}
+
+fn agreed(t: &[u64]) -> bool {
+    let verdicts = [proved_judge(t), counting_judge(t), marking_judge(t)];
+    assert!(verdicts == [verdicts[0]; 3], "proved, counting, marking: {verdicts:?} on {t:?}");
+    verdicts[0]
+}
+
+fn compare(random: &mut Random, tables: usize) {
+    let odd = odd_words();
     for (word, length) in odd.iter().flat_map(|word| (0..300).map(move |length| (*word, length))) {
-        let t = vec![word; length];
-        assert!(!proved_judge(&t) && !hand_judge(&t), "{length} words {word} pass");
+        assert!(!agreed(&vec![word; length]), "{length} words {word} pass");
     }
     let mut allowed = 0;
     for _ in 0..tables {
-        let rows = 1 + random.below(6) as usize;
+        let most = if random.one_in(4) { 70 } else { 6 };
+        let rows = 1 + random.below(most) as usize;
         let mut t = table(random, rows, true);
-        for _ in 0..random.below(3) {
-            let at = random.below(t.len() as u64) as usize;
-            t[at] = if random.one_in(3) {
-                t[random.below(t.len() as u64) as usize]
-            } else {
-                odd[random.below(odd.len() as u64) as usize]
-            };
+        for _ in 0..random.below(4) {
+            damage(random, &mut t, rows, &odd);
+            if t.len() < HEADER + rows * (WIDTH + 2) {
+                break;
+            }
         }
-        if random.one_in(20) {
-            t.truncate(t.len() - random.below(5) as usize);
-        }
-        let (a, b) = (proved_judge(&t), hand_judge(&t));
-        assert_eq!(a, b, "they differ on {t:?}");
-        allowed += a as usize;
+        allowed += agreed(&t) as usize;
     }
     println!(
-        "{tables} small tables, most of them damaged: {allowed} allowed, {} not, no difference",
+        "{tables} tables of 1 to 70 rows, most of them damaged: {allowed} allowed, {} not, no difference",
         tables - allowed
     );
 }
@@ -325,18 +437,20 @@ fn nanoseconds(judge: impl Fn(&[u64]) -> bool, t: &[u64], rounds: usize) -> f64 
 fn main() {
     let mut random = Random(88_172_645_463_325_252);
     compare(&mut random, 400_000);
-    println!(
-        "{:>6} {:>14} {:>14} {:>8}",
-        "rows", "proved, ns", "by hand, ns", "ratio"
-    );
+    println!("  rows   proved, ns   counting by hand, ns   beside   marking by hand, ns   beside");
     for rows in [64, 1_024, 4_096] {
         let t = table(&mut random, rows, false);
-        let rounds = 4_000_000 / (rows * 8);
-        let (mut proved, mut hand) = (f64::MAX, f64::MAX);
+        let rounds = 4_000_000 / (rows * (WIDTH + 2));
+        let (mut proved, mut counting, mut marking) = (f64::MAX, f64::MAX, f64::MAX);
         for _ in 0..21 {
             proved = proved.min(nanoseconds(proved_judge, &t, rounds));
-            hand = hand.min(nanoseconds(hand_judge, &t, rounds));
+            counting = counting.min(nanoseconds(counting_judge, &t, rounds));
+            marking = marking.min(nanoseconds(marking_judge, &t, rounds));
         }
-        println!("{rows:>6} {proved:>14.0} {hand:>14.0} {:>8.2}", proved / hand);
+        println!(
+            "{rows:>6} {proved:>12.0} {counting:>22.0} {:>8.2} {marking:>21.0} {:>8.2}",
+            proved / counting,
+            proved / marking
+        );
     }
 }

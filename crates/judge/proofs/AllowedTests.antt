@@ -21,10 +21,11 @@ use Rattle.rules.proofs.Lists.{elem-first}
 use Rattle.rules.proofs.Tests.{split}
 use Rattle.layout.specs.Picture.{rowNumber}
 use Rattle.layout.proofs.Numbers.{stands}
+use Rattle.layout.proofs.Rows.{not-used, get-row}
 use Rattle.judge.specs.Verdict.{_and_, holdAllowed, entryAllowed, everyEntry, everyAddress, distinct, recencyAllowed, isAllowed}
 use Rattle.judge.proofs.Says.{no}
 use Rattle.judge.proofs.Marking.{or-right}
-use Rattle.judge.proofs.Names.{both, free-not-used, found, get-row}
+use Rattle.judge.proofs.Names.{both, found}
 
 -- ---- conjunctions
 
@@ -81,8 +82,8 @@ entry-in e a =
 
 every-out : (test : Entry → Bool) (rows : List Row) → everyEntry test rows ≡ true → (r : ℕ) (e : Entry) → getD rows r Free ≡ Used e → test e ≡ true
 unfolding everyEntry
-every-out test [] h r e q = free-not-used e q
-every-out test (Free ∷ rows) h zero e q = free-not-used e q
+every-out test [] h r e q = not-used q
+every-out test (Free ∷ rows) h zero e q = not-used q
 every-out test (Free ∷ rows) h (suc r) e q = every-out test rows h r e q
 every-out test (Used x ∷ rows) h zero e q = let p : x ≡ e = cc in rw p at (left _ _ h)
 every-out test (Used x ∷ rows) h (suc r) e q = every-out test rows (right _ _ h) r e q
@@ -138,7 +139,7 @@ module _ (rows : List Row) (recency : List ℕ) where
   listed-in : Distinct rows → ((a : ℕ) → elem a recency ≡ passes isListed (get rows a)) → twice recency ≡ false → recencyAllowed rows recency ≡ true
   listed-in d f t =
       also
-      (every-in stood rows (λ r e q. implies (isListed e) (elem (e .address) recency) (λ s. f (e .address) ∙ ap (passes isListed) (get-row rows d r e q) ∙ s)))
+      (every-in stood rows (λ r e q. implies (isListed e) (elem (e .address) recency) (λ s. f (e .address) ∙ ap (passes isListed) (get-row rows r e d q) ∙ s)))
       (also (each-in fair recency (λ a e. sym (f a) ∙ e)) (ap not t))
 
 -- ---- the cache
@@ -172,7 +173,7 @@ unfolding isAllowed
 allowed-in c a =
     let s = a .sound in
     also (le-leb _ _ (a .someRows)) (also (le-leb _ _ (a .rows))
-    (also (every-in entryAllowed (c .rows) (λ r e q. entry-in e (a .entries (e .address) e (get-row (c .rows) (s .distinct) r e q))))
+    (also (every-in entryAllowed (c .rows) (λ r e q. entry-in e (a .entries (e .address) e (get-row (c .rows) r e (s .distinct) q))))
     (also (distinct-in (c .rows) (s .distinct)) (also (listed-in (c .rows) (c .recency) (s .distinct) (s .listed) (s .once))
     (also (le-leb _ _ (a .someBytes)) (also (le-leb _ _ (a .threshold)) (also (eq-eqb _ _ (a .settings))
     (also (le-leb _ _ (a .least)) (also (le-leb _ _ (a .most)) (also (lt-ltb _ _ (a .accesses)) (also (le-leb _ _ (a .hits)) (le-leb _ _ (a .count)))))))))))))

@@ -1,10 +1,13 @@
 pub mod Says
 pub mod Marking
-pub mod RunWords
-pub mod Parts
+pub mod Ascending
 pub mod RowWords
+pub mod Tally
+pub mod Counting
+pub mod RunWords
 pub mod Names
 pub mod Numbered
+pub mod Parts
 pub mod TableWords
 pub mod OwnWords
 pub mod AllowedTests

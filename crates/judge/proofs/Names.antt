@@ -18,6 +18,7 @@ use Rattle.rules.proofs.Lists.{elem-first}
 use Rattle.rules.proofs.Tests.{split, neither}
 use Rattle.layout.specs.Picture.{addressOf, rowNumber, addressAt}
 use Rattle.layout.proofs.Numbers.{stands}
+use Rattle.layout.proofs.Rows.{not-used, get-row}
 use Rattle.judge.proofs.Says.{no}
 use Rattle.judge.proofs.Marking.{or-right}
 use Rattle.judge.proofs.RowWords.{testRow}
@@ -33,9 +34,6 @@ not-true-false true f = absurd (f refl)
 not-true-false false f = refl
 
 -- ---- one row
-
-pub free-not-used : {X : Type 0} (e : Entry) → Free ≡ Used e → X
-free-not-used e q = no _ refl (ap (testRow (λ x. true)) q)
 
 -- a row that passes has an entry
 pub record Has (test : Entry → Bool) (row : Row) : Type 0 where
@@ -60,30 +58,20 @@ found test rows a h =
     let s = stands rows a (p .0) (p .1) in
     record { entry = p .0; is = s .row; at = s .address; passes = p .2 }
 
--- ---- a row's entry is what its address leads to
+-- ---- an entry's address leads to its row
 
 apart : (x e : Entry) (rows : List Row) → get rows (x .address) ≡ none → get rows (e .address) ≡ some e → eqb (x .address) (e .address) ≡ false
 apart x e rows d g =
     not-true-false _ (λ p. Option·some-ne-none e (sym g ∙ ap (get rows) (sym (eqb-true (x .address) (e .address) p)) ∙ d))
 
-pub get-row : (rows : List Row) → Distinct rows → (i : ℕ) (e : Entry) → getD rows i Free ≡ Used e → get rows (e .address) ≡ some e
-unfolding get
-get-row [] d i e h = free-not-used e h
-get-row (Free ∷ rows) d zero e h = free-not-used e h
-get-row (Free ∷ rows) d (suc i) e h = get-row rows d i e h
-get-row (Used x ∷ rows) d zero e h = let q : x ≡ e = cc in rw (q, eq-eqb (e .address) (e .address) refl)
-get-row (Used x ∷ rows) d (suc i) e h =
-    let g = get-row rows (d .1) i e h in
-    rw (apart x e rows (d .0) g) g
-
 pub number-back : (rows : List Row) → Distinct rows → (i : ℕ) (e : Entry) → getD rows i Free ≡ Used e → rowNumber rows (e .address) ≡ i
 unfolding rowNumber
-number-back [] d i e h = free-not-used e h
-number-back (Free ∷ rows) d zero e h = free-not-used e h
+number-back [] d i e h = not-used h
+number-back (Free ∷ rows) d zero e h = not-used h
 number-back (Free ∷ rows) d (suc i) e h = ap suc (number-back rows d i e h)
 number-back (Used x ∷ rows) d zero e h = let q : x ≡ e = cc in rw (q, eq-eqb (e .address) (e .address) refl)
 number-back (Used x ∷ rows) d (suc i) e h =
-    rw (apart x e rows (d .0) (get-row rows (d .1) i e h)) (ap suc (number-back rows (d .1) i e h))
+    rw (apart x e rows (d .0) (get-row rows i e (d .1) h)) (ap suc (number-back rows (d .1) i e h))
 
 -- ---- mapped lists
 
@@ -131,7 +119,7 @@ module _ (f : ℕ → ℕ) where
 
 module _ (rows : List Row) (d : Distinct rows) (test : Entry → Bool) where
   leads : (i : ℕ) (e : Entry) → getD rows i Free ≡ Used e → test e ≡ true → passes test (get rows (e .address)) ≡ true
-  leads i e h t = rw (get-row rows d i e h) t
+  leads i e h t = rw (get-row rows i e d h) t
 
   pub by-number : (xs : List ℕ) → ((a : ℕ) → elem a xs ≡ passes test (get rows a)) → (r : ℕ) → elem r (map (rowNumber rows) xs) ≡ testRow test (getD rows r Free)
   by-number xs f r =

@@ -7,7 +7,6 @@ use mathlib.Core.Option.{Option, none, some}
 use mathlib.Core.List.{List, [], _∷_, map}
 use native.Mathlib.Omega.{arith}
 use native.Mathlib.Decide.{ℕ-discrete, decLt}
-use native.Mathlib.Nat.{le-of-suc-le-suc}
 use borrow.Author.Tests.{ne-eqb, eqb-true}
 use lib.Dec.{eqb}
 use lib.ListN.{length, getD, List·getD-eq-default}
@@ -22,13 +21,15 @@ use Rattle.rules.specs.Rows.{get, passes}
 use Rattle.rules.proofs.Lists.{elem-first}
 use Rattle.rules.proofs.Tests.{split}
 use Rattle.layout.specs.Picture.{addressOf, rowNumber, addressAt, addresses}
+use Rattle.layout.proofs.Cuts.{elem-at}
 use Rattle.layout.proofs.Numbers.{here-of, address-back, elem-addresses, rising-addresses, stands}
 use Rattle.layout.proofs.ReadBack.{RowAllowed}
+use Rattle.layout.proofs.Rows.{get-row}
 use Rattle.layout.proofs.Rising as ri
 use Rattle.judge.proofs.Says.{no}
 use Rattle.judge.proofs.Marking.{or-right}
 use Rattle.judge.proofs.RowWords.{testRow}
-use Rattle.judge.proofs.Names.{not-true-false, get-row, map-back, twice-to, by-number, by-address, numbered}
+use Rattle.judge.proofs.Names.{not-true-false, map-back, twice-to, by-number, by-address, numbered}
 
 -- ---- rising keys, by place and by what follows
 
@@ -159,7 +160,7 @@ module _ (c : Cache) (sound : Sound c) (entries : (a : ℕ) (e : Entry) → get 
 
   pub numbered-of : Numbered (c .rows) (map (rowNumber (c .rows)) (c .recency)) (map (rowNumber (c .rows)) (addresses (c .rows)))
   numbered-of = record {
-    allowed = λ r. row-allowed (getD (c .rows) r Free) (λ e q. entries (e .address) e (get-row (c .rows) (sound .distinct) r e q));
+    allowed = λ r. row-allowed (getD (c .rows) r Free) (λ e q. entries (e .address) e (get-row (c .rows) r e (sound .distinct) q));
     listed = by-number (c .rows) (sound .distinct) isListed (c .recency) (sound .listed);
     once = twice-to (rowNumber (c .rows)) (addressAt (c .rows)) (c .recency) listed-back (sound .once);
     used = by-number (c .rows) (sound .distinct) (λ e. true) (addresses (c .rows)) (elem-addresses (c .rows));
@@ -170,11 +171,19 @@ module _ (c : Cache) (sound : Sound c) (entries : (a : ℕ) (e : Entry) → get 
 
 -- ---- numbers of rows
 
-elem-getD : (xs : List ℕ) (i : ℕ) → i < length xs → elem (getD xs i 0) xs ≡ true
+-- where a number stands
+pub record At (xs : List ℕ) (x : ℕ) : Type 0 where
+  pub place : ℕ
+  pub low : place < length xs
+  pub is : getD xs place 0 ≡ x
+
+pub at : (xs : List ℕ) (x : ℕ) → elem x xs ≡ true → At xs x
 unfolding elem
-elem-getD [] i h = absurd (omega arith)
-elem-getD (x ∷ xs) zero h = elem-first x xs
-elem-getD (x ∷ xs) (suc i) h = or-right (eqb x (getD xs i 0)) (elem (getD xs i 0) xs) (elem-getD xs i (le-of-suc-le-suc h))
+at [] x h = no _ refl h
+at (y ∷ xs) x h =
+    split (eqb y x)
+    (λ p. record { place = 0; low = omega arith; is = eqb-true y x p })
+    (λ p. let r = at xs x (rw p at h) in record { place = suc (r .place); low = let l = r .low in omega arith; is = r .is })
 
 -- the numbers of rows that pass a test are below the row count
 pub number-below : (rows : List Row) (test : Entry → Bool) (xs : List ℕ) → ((r : ℕ) → elem r xs ≡ testRow test (getD rows r Free)) → (i : ℕ) → i < length xs
@@ -182,7 +191,7 @@ pub number-below : (rows : List Row) (test : Entry → Bool) (xs : List ℕ) →
 number-below rows test xs f i h =
     dite (decLt (getD xs i 0) (length rows)) (λ (l : getD xs i 0 < length rows). l)
     (λ (l : getD xs i 0 < length rows → ⊥).
-    no _ (f (getD xs i 0) ∙ ap (testRow test) (List·getD-eq-default rows Free {n = getD xs i 0} (omega arith))) (elem-getD xs i h))
+    no _ (f (getD xs i 0) ∙ ap (testRow test) (List·getD-eq-default rows Free {n = getD xs i 0} (omega arith))) (elem-at i xs h))
 
 -- and a row past them is not among them
 pub none-past : (n : ℕ) (xs : List ℕ) → ((i : ℕ) → i < length xs → getD xs i 0 < n) → (r : ℕ) → n ≤ r → elem r xs ≡ false

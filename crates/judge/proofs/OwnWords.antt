@@ -1,15 +1,16 @@
 -- The words of an allowed cache fit.
-use Prim.Native.Nat.{ℕ, _+_, _*_, _-_, _≤_, _<_}
+use Prim.Native.Nat.{ℕ, _+_, _-_, _≤_, _<_}
 use mathlib.Core.Path.{_≡_, refl, sym, ap, _∙_}
 use mathlib.Core.Bool.{true}
 use mathlib.Core.List.{List, map}
 use native.Mathlib.Omega.{arith}
 use native.Mathlib.Nat.{add-zero}
-use lib.ListN.{length, getD, length-map, List·getD-append}
+use lib.ListN.{length, getD, length-map}
 use lib.Seq.{take-at}
-use Rattle.settings_words.specs.Words.{settingsWords}
+use Rattle.settings_words.specs.Words.{flagOf, settingsWords}
 use Rattle.settings_words.specs.FloatsFit.{FloatsFit}
 use Rattle.settings_words.proofs.PictureLaws as settings
+use Rattle.rules.specs.declared.entry.Row.{Row}
 use Rattle.rules.specs.declared.entry.Row.the-variants.{Free}
 use Rattle.rules.specs.declared.request.Mode.{Mode}
 use Rattle.rules.specs.declared.request.Mode.the-variants.{Alone, Lead, Standby}
@@ -17,12 +18,14 @@ use Rattle.rules.specs.Addresses.{elem}
 use Rattle.rules.specs.Allowed.{Allowed}
 use Rattle.rules.specs.Cache.{Cache}
 use Rattle.rules.specs.Entries.{isListed}
-use Rattle.layout.specs.Layout.{headerWords, rowAt, recencyAt, addressesAt, layoutWords, modeWord}
-use Rattle.layout.specs.Picture.{rowNumber, addressAt, addresses, rowsWords, run, headWords, encode}
+use Rattle.layout.specs.Layout.{rowAt, recencyAt, addressesAt, layoutWords, modeWord}
+use Rattle.layout.specs.Picture.{rowNumber, addressAt, addresses, run, headWords, encode}
 use Rattle.layout.proofs.Numbers.{listed-most, used-most}
-use Rattle.layout.proofs.Seams.{length-head, length-rows, length-run, past, drop-recency, drop-addresses, length-laid}
-use Rattle.judge.specs.Fits.{FitsAt, PartsFit, TableFits, numbers, part, usedAt, listedAt}
-use Rattle.judge.proofs.RowWords.{testRow, word, row-fits, words-used, words-listed, words-address, word-at}
+use Rattle.layout.proofs.Parts.{row-word}
+use Rattle.layout.proofs.Seams.{length-head, length-run, drop-recency, drop-addresses, length-laid}
+use Rattle.judge.specs.declared.row.RowWords.{RowWords}
+use Rattle.judge.specs.Fits.{RowFits, PartsFit, TableFits, numbers, part, wordsAt, usedAt}
+use Rattle.judge.proofs.RowWords.{testRow, wordsOf, own-fits, own-used, own-address, own-not-ones}
 use Rattle.judge.proofs.RunWords.{own-numbers, own-run}
 use Rattle.judge.proofs.Numbered.{Numbered, numbered-of, number-below, rising-once}
 
@@ -81,38 +84,38 @@ module _ (c : Cache) (ok : Allowed c) (rest : List ℕ) where
 
   -- ---- the rows
 
-  word-of : (r k : ℕ) → r < n → k < 6 → getD ws (rowAt r + k) 0 ≡ word (getD (c .rows) r Free) k
+  abbrev row : ℕ → Row
+  row r = getD (c .rows) r Free
+
+  words-is : (r : ℕ) → r < n → wordsAt ws r ≡ wordsOf (row r)
   unfolding encode
-  word-of r k h l =
-      let e : rowAt r + k ≡ headerWords + (r * 6 + k) = omega arith in
-      rw e
-      (past (headWords c) _ headerWords (r * 6 + k) (length-head c)
-      ∙ List·getD-append (rowsWords (c .rows)) _ 0 (r * 6 + k) (omega (arith, length-rows (c .rows)))
-      ∙ word-at (c .rows) r k h l)
+  words-is r h =
+      let w = row-word (headWords c) (c .rows) (length-head c) recency order rest r h in
+      let a : getD ws (rowAt r) 0 ≡ wordsOf (row r) .address = rw (add-zero (rowAt r)) at (w 0 (omega arith)) in
+      λ j. record {
+        address = a j;
+        size = w 1 (omega arith) j;
+        dirty = w 2 (omega arith) j;
+        idle = w 3 (omega arith) j;
+        pinned = w 4 (omega arith) j;
+        hold = w 5 (omega arith) j;
+      }
 
-  first-word : (r : ℕ) → r < n → getD ws (rowAt r) 0 ≡ word (getD (c .rows) r Free) 0
-  first-word r h = ap (λ (k : ℕ). getD ws k 0) (sym (add-zero (rowAt r))) ∙ word-of r 0 h (omega arith)
+  rows-fit : (r : ℕ) → r < n → RowFits (wordsAt ws r) (elem r recency)
+  rows-fit r h = rw (words-is r h, lists .listed r) (own-fits (row r) (lists .allowed r))
 
-  rows-fit : (r : ℕ) → r < n → FitsAt ws r
-  rows-fit r h =
-      rw (first-word r h, word-of r 1 h (omega arith), word-of r 2 h (omega arith), word-of r 3 h (omega arith), word-of r 4 h (omega arith), word-of r 5 h (omega arith))
-      (row-fits (getD (c .rows) r Free) (lists .allowed r))
+  used-is : (r : ℕ) → r < n → usedAt ws r ≡ testRow (λ e. true) (row r)
+  used-is r h = ap (λ (w : RowWords). flagOf (w .size)) (words-is r h) ∙ own-used (row r) (lists .allowed r)
 
-  listed-is : (r : ℕ) → r < n → listedAt ws r ≡ testRow isListed (getD (c .rows) r Free)
-  listed-is r h = rw (word-of r 1 h (omega arith), word-of r 4 h (omega arith), word-of r 5 h (omega arith)) (words-listed (getD (c .rows) r Free) (lists .allowed r))
-
-  used-is : (r : ℕ) → r < n → usedAt ws r ≡ testRow (λ e. true) (getD (c .rows) r Free)
-  used-is r h = rw (word-of r 1 h (omega arith)) (words-used (getD (c .rows) r Free) (lists .allowed r))
-
-  address-is : (i : ℕ) → i < length order → getD ws (rowAt (getD order i 0)) 0 ≡ addressAt (c .rows) (getD order i 0)
-  address-is i h = first-word (getD order i 0) (order-below i h) ∙ words-address (getD (c .rows) (getD order i 0) Free)
+  address-is : (i : ℕ) → i < length order → wordsAt ws (getD order i 0) .address ≡ addressAt (c .rows) (getD order i 0)
+  address-is i h = ap (λ (w : RowWords). w .address) (words-is (getD order i 0) (order-below i h)) ∙ own-address (row (getD order i 0))
 
   own-parts : PartsFit ws (run n recency) (run n order) n
   own-parts = record {
     recencyRun = own-run n n recency recency-few (ok .rows) recency-below (lists .once);
     orderRun = own-run n n order order-few (ok .rows) order-below (rising-once (addressAt (c .rows)) order (lists .rises));
-    rows = rows-fit;
-    inRecency = λ r h. ap (elem r) recency-numbers ∙ lists .listed r ∙ sym (listed-is r h);
+    rows = rw recency-numbers rows-fit;
+    notOnes = λ r h q. own-not-ones (row r) (lists .allowed r) (ap (λ (w : RowWords). w .address) (sym (words-is r h)) ∙ q);
     inOrder = λ r h. ap (elem r) order-numbers ∙ lists .used r ∙ sym (used-is r h);
     rises = rw order-numbers (λ i h. omega (arith, address-is i (omega arith), address-is (i + 1) h, lists .rises i h));
   }

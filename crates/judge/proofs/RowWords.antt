@@ -4,24 +4,25 @@ use mathlib.Core.Path.{_≡_, refl, sym, ap, _∙_}
 use mathlib.Core.Bool.{Bool, true, false, not}
 use mathlib.Core.List.{List, [], _∷_, _++_}
 use native.Mathlib.Omega.{arith}
-use native.Mathlib.Nat.{zero-add, add-zero, le-of-suc-le-suc}
+use native.Mathlib.Nat.{add-zero, le-of-suc-le-suc}
 use borrow.Author.Tests.{eq-eqb, ne-eqb, eqb-true, eqb-false}
 use lib.Dec.{eqb}
-use lib.ListN.{length, getD, take, drop, length-drop, List·getD-append}
-use lib.Seq.{getD-drop, take-add, drop-cons, drop-drop}
+use lib.ListN.{length, getD, take, drop}
+use lib.Seq.{take-add, drop-cons, drop-drop}
 use Rattle.settings_words.specs.Words.{flagWord, flagOf}
 use Rattle.rules.specs.declared.entry.Entry.{Entry}
 use Rattle.rules.specs.declared.entry.Hold.{Hold}
 use Rattle.rules.specs.declared.entry.Hold.the-variants.{Unheld, Readers, Writer}
 use Rattle.rules.specs.declared.entry.Row.{Row}
 use Rattle.rules.specs.declared.entry.Row.the-variants.{Free, Used}
-use Rattle.rules.specs.Allowed.{HoldAllowed, EntryAllowed}
+use Rattle.rules.specs.Allowed.{HoldAllowed}
 use Rattle.rules.specs.Entries.{isHeld, isListed}
 use Rattle.rules.proofs.Tests.{choose}
-use Rattle.layout.specs.Layout.{ones, rowAt, holdWord, holdOf}
+use Rattle.layout.specs.Layout.{ones, width, rowAt, holdWord, holdOf}
 use Rattle.layout.specs.Picture.{addressOf, rowWords, rowsWords, entryOf, rowOf, rowsOf}
 use Rattle.layout.proofs.ReadBack.{RowAllowed}
-use Rattle.judge.specs.Fits.{RowFits, FitsAt, listedWords}
+use Rattle.judge.specs.declared.row.RowWords.{RowWords}
+use Rattle.judge.specs.Fits.{EntryFits, RowFits, free, entry, wordsAt}
 
 -- a test of a row; it fails where the row is free
 abbrev pub testRow : (Entry → Bool) → Row → Bool
@@ -58,50 +59,57 @@ not-not : (b : Bool) → not (not b) ≡ b
 not-not true = refl
 not-not false = refl
 
-module _ (a s d i p h : ℕ) where
-  -- the entry of six words
-  abbrev entryBy : Entry
-  entryBy = record { address = a; size = s; dirty = flagOf d; idle = i; pinned = flagOf p; hold = holdOf h }
+-- the entry of a row's words
+abbrev pub entryBy : RowWords → Entry
+entryBy w = record { address = w .address; size = w .size; dirty = flagOf (w .dirty); idle = w .idle; pinned = flagOf (w .pinned); hold = holdOf (w .hold) }
 
-  -- what holds of the row, by its size
-  row-cases : (P : Row → Type 0) → (s ≡ 0 → P Free) → ((s ≡ 0 → ⊥) → P (Used entryBy)) → P (rowOf entryBy)
-  row-cases P f g = choose P (eqb s 0) (λ e. f (eqb-true s 0 e)) (λ e. g (eqb-false s 0 e))
+-- the words in their order
+abbrev pub listBy : RowWords → List ℕ
+listBy w = w .address ∷ w .size ∷ w .dirty ∷ w .idle ∷ w .pinned ∷ w .hold ∷ []
 
-  module _ (f : RowFits a s d i p h) where
-    pub row-used : testRow (λ e. true) (rowOf entryBy) ≡ flagOf s
-    row-used = row-cases (λ x. testRow (λ e. true) x ≡ flagOf s) (λ e. rw (eq-eqb s 0 e)) (λ n. rw (ne-eqb s 0 n))
+pub row-used : (w : RowWords) → testRow (λ e. true) (rowOf (entryBy w)) ≡ flagOf (w .size)
+row-used w = choose (λ x. testRow (λ e. true) x ≡ flagOf (w .size)) (eqb (w .size) 0) (λ e. rw e) (λ e. rw e)
 
-    pub row-listed : testRow isListed (rowOf entryBy) ≡ listedWords s p h
-    row-listed =
-        row-cases (λ x. testRow isListed x ≡ listedWords s p h) (λ e. rw (eq-eqb s 0 e)) (λ n. rw (ne-eqb s 0 n, held-word h, not-not))
+module _ {w : RowWords} {m : Bool} where
+  sized : EntryFits w m → eqb (w .size) 0 ≡ false
+  sized f = ne-eqb (w .size) 0 (f .size .some)
 
-    pub row-forth : rowWords (rowOf entryBy) ≡ a ∷ s ∷ d ∷ i ∷ p ∷ h ∷ []
-    row-forth =
-        row-cases (λ x. rowWords x ≡ a ∷ s ∷ d ∷ i ∷ p ∷ h ∷ [])
-        (λ e. let g = f .free e in rw (e, g .address, g .dirty, g .idle, g .pinned, g .hold))
-        (λ n. let g = f .used n in rw (flag-forth d (g .dirty), flag-forth p (g .pinned), hold-forth h))
+  pub row-listed : RowFits w m → testRow isListed (rowOf (entryBy w)) ≡ m
+  row-listed (free f) = rw (f .size, f .listing)
+  row-listed (entry f) = rw (sized f, held-word (w .hold), not-not, f .listing)
 
-    pub row-allowed : RowAllowed (rowOf entryBy)
-    row-allowed =
-        row-cases RowAllowed (λ e. tt)
-        (λ n. let g = f .used n in record {
-          address = ne-eqb a ones (g .address);
-          nonempty = omega arith;
-          size = g .size;
-          idle = g .idle;
-          hold = hold-allowed h (g .hold);
-        })
+  pub row-forth : RowFits w m → rowWords (rowOf (entryBy w)) ≡ listBy w
+  row-forth (free f) = rw (f .address, f .size, f .dirty, f .idle, f .pinned, f .hold)
+  row-forth (entry f) = rw (sized f, flag-forth (w .dirty) (f .dirty), flag-forth (w .pinned) (f .pinned), hold-forth (w .hold))
 
-    pub row-address : addressOf (rowOf entryBy) ≡ a
-    row-address = row-cases (λ x. addressOf x ≡ a) (λ e. sym (f .free e .address)) (λ n. refl)
+  pub row-allowed : RowFits w m → (w .address ≡ ones → ⊥) → RowAllowed (rowOf (entryBy w))
+  row-allowed (free f) h = rw (f .size) tt
+  row-allowed (entry f) h = rw (sized f) (record {
+    address = ne-eqb (w .address) ones h;
+    nonempty = let s = f .size .some in omega arith;
+    size = f .size .most;
+    idle = f .idle;
+    hold = hold-allowed (w .hold) (f .hold);
+  })
+
+  pub row-address : RowFits w m → addressOf (rowOf (entryBy w)) ≡ w .address
+  row-address (free f) = rw (f .size, f .address)
+  row-address (entry f) = rw (sized f)
+
+  -- a row with an address above 0 is not free
+  pub fits-used : RowFits w m → (w .address ≡ 0 → ⊥) → flagOf (w .size) ≡ true
+  fits-used (free f) h = absurd (h (f .address))
+  fits-used (entry f) h = rw (sized f)
 
 -- ---- from a row to words
 
--- the words of a row by number
-abbrev pub word : Row → ℕ → ℕ
-word x k = getD (rowWords x) k 0
+-- the words of a row, by name
+abbrev pub wordsOf : Row → RowWords
+wordsOf x =
+    let ws = rowWords x in
+    record { address = getD ws 0 0; size = getD ws 1 0; dirty = getD ws 2 0; idle = getD ws 3 0; pinned = getD ws 4 0; hold = getD ws 5 0 }
 
-flag-low : (b : Bool) → flagWord b ≤ 1
+pub flag-low : (b : Bool) → flagWord b ≤ 1
 flag-low true = omega arith
 flag-low false = omega arith
 
@@ -119,37 +127,28 @@ hold-free Unheld f = refl
 hold-free (Readers n) f = ne-eqb n 0 (λ (e : n ≡ 0). omega arith)
 hold-free Writer f = refl
 
-nonempty : (e : Entry) → EntryAllowed e → eqb (e .size) 0 ≡ false
-nonempty e f = ne-eqb (e .size) 0 (λ (q : e .size ≡ 0). let h = f .nonempty in omega arith)
+pub own-fits : (x : Row) → RowAllowed x → RowFits (wordsOf x) (testRow isListed x)
+own-fits Free f = free (record { listing = refl; address = refl; size = refl; dirty = refl; idle = refl; pinned = refl; hold = refl })
+own-fits (Used e) f = entry (record {
+  size = record { some = λ (q : e .size ≡ 0). let h = f .nonempty in omega arith; most = f .size };
+  dirty = flag-low (e .dirty);
+  idle = f .idle;
+  pinned = flag-low (e .pinned);
+  hold = hold-low (e .hold) (f .hold);
+  listing = rw (hold-free (e .hold) (f .hold), flag-free (e .pinned));
+})
 
-pub row-fits : (x : Row) → RowAllowed x → RowFits (word x 0) (word x 1) (word x 2) (word x 3) (word x 4) (word x 5)
-row-fits Free f = record {
-  free = λ e. record { address = refl; dirty = refl; idle = refl; pinned = refl; hold = refl };
-  used = λ n. absurd (n refl);
-}
-row-fits (Used e) f = record {
-  free = λ q. absurd (eqb-false (e .size) 0 (nonempty e f) q);
-  used = λ n. record {
-    address = eqb-false (e .address) ones (f .address);
-    size = f .size;
-    dirty = flag-low (e .dirty);
-    idle = f .idle;
-    pinned = flag-low (e .pinned);
-    hold = hold-low (e .hold) (f .hold);
-  };
-}
+pub own-used : (x : Row) → RowAllowed x → flagOf (wordsOf x .size) ≡ testRow (λ e. true) x
+own-used Free f = refl
+own-used (Used e) f = rw (ne-eqb (e .size) 0 (λ (q : e .size ≡ 0). let h = f .nonempty in omega arith))
 
-pub words-used : (x : Row) → RowAllowed x → flagOf (word x 1) ≡ testRow (λ e. true) x
-words-used Free f = refl
-words-used (Used e) f = rw (nonempty e f)
+pub own-address : (x : Row) → wordsOf x .address ≡ addressOf x
+own-address Free = refl
+own-address (Used e) = refl
 
-pub words-listed : (x : Row) → RowAllowed x → listedWords (word x 1) (word x 4) (word x 5) ≡ testRow isListed x
-words-listed Free f = refl
-words-listed (Used e) f = rw (nonempty e f, hold-free (e .hold) (f .hold), flag-free (e .pinned))
-
-pub words-address : (x : Row) → word x 0 ≡ addressOf x
-words-address Free = refl
-words-address (Used e) = refl
+pub own-not-ones : (x : Row) → RowAllowed x → wordsOf x .address ≡ ones → ⊥
+own-not-ones Free f h = absurd (omega arith)
+own-not-ones (Used e) f h = eqb-false (e .address) ones (f .address) h
 
 -- ---- all rows
 
@@ -166,39 +165,27 @@ getD-rowsOf (suc n) k ws (suc r) h =
     let e : suc k + r ≡ k + suc r = omega arith in
     getD-rowsOf n (suc k) ws r (le-of-suc-le-suc h) ∙ ap (λ (m : ℕ). rowOf (entryOf ws m)) e
 
--- k words from place j on, one by one
-abbrev pub firsts : ℕ → ℕ → List ℕ → List ℕ
-firsts zero j ws = []
-firsts (suc k) j ws = getD ws j 0 ∷ firsts k (suc j) ws
+-- k words from place at + i on, one by one
+abbrev pub firsts : ℕ → ℕ → ℕ → List ℕ → List ℕ
+firsts zero i at ws = []
+firsts (suc k) i at ws = getD ws (at + i) 0 ∷ firsts k (suc i) at ws
 
-pub take-firsts : (k j : ℕ) (ws : List ℕ) → j + k ≤ length ws → take k (drop j ws) ≡ firsts k j ws
-take-firsts zero j ws h = refl
-take-firsts (suc k) j ws h = rw (drop-cons ws j 0 (omega arith)) (ap (λ (l : List ℕ). getD ws j 0 ∷ l) (take-firsts k (suc j) ws (omega arith)))
+pub take-firsts : (k i at : ℕ) (ws : List ℕ) → at + i + k ≤ length ws → take k (drop (at + i) ws) ≡ firsts k i at ws
+take-firsts zero i at ws h = refl
+take-firsts (suc k) i at ws h =
+    let e : suc (at + i) ≡ at + suc i = omega arith in
+    rw (drop-cons ws (at + i) 0 (omega arith), e) (ap (λ (l : List ℕ). getD ws (at + i) 0 ∷ l) (take-firsts k (suc i) at ws (omega arith)))
 
 -- the words of row k
-six-at : (ws : List ℕ) (k : ℕ) → rowAt (suc k) ≤ length ws → FitsAt ws k → take 6 (drop (rowAt k) ws) ≡ rowWords (rowOf (entryOf ws k))
-unfolding entryOf
-six-at ws k h f =
-    take-firsts 6 0 (drop (rowAt k) ws) (omega (arith, length-drop (rowAt k) ws))
-    ∙ rw (getD-drop (rowAt k) ws 0 0, getD-drop (rowAt k) ws 1 0, getD-drop (rowAt k) ws 2 0, getD-drop (rowAt k) ws 3 0, getD-drop (rowAt k) ws 4 0, getD-drop (rowAt k) ws 5 0, add-zero (rowAt k))
-    (sym (row-forth _ _ _ _ _ _ f))
+list-at : (ws : List ℕ) (k : ℕ) → rowAt (suc k) ≤ length ws → take width (drop (rowAt k) ws) ≡ listBy (wordsAt ws k)
+list-at ws k h = rw (add-zero (rowAt k)) at (take-firsts width 0 (rowAt k) ws (omega arith))
 
-pub rows-forth : (n k : ℕ) (ws : List ℕ) → rowAt (k + n) ≤ length ws → ((r : ℕ) → k ≤ r → r < k + n → FitsAt ws r) → take (n * 6) (drop (rowAt k) ws) ≡ rowsWords (rowsOf n k ws)
+pub rows-forth : (n k : ℕ) (ws : List ℕ) → rowAt (k + n) ≤ length ws → ((r : ℕ) → k ≤ r → r < k + n → rowWords (rowOf (entryOf ws r)) ≡ listBy (wordsAt ws r))
+    → take (n * width) (drop (rowAt k) ws) ≡ rowsWords (rowsOf n k ws)
 unfolding rowsOf rowsWords
 rows-forth zero k ws h f = refl
 rows-forth (suc n) k ws h f =
-    let e : suc n * 6 ≡ 6 + n * 6 = omega arith in
-    let d : rowAt k + 6 ≡ rowAt (suc k) = omega arith in
-    rw (e, take-add 6 (n * 6) (drop (rowAt k) ws), drop-drop 6 (rowAt k) ws, d, six-at ws k (omega arith) (f k (omega arith) (omega arith)))
-    (ap (λ (l : List ℕ). rowWords (rowOf (entryOf ws k)) ++ l) (rows-forth n (suc k) ws (omega arith) (λ r a b. f r (omega arith) (omega arith))))
-
-six : (r k : ℕ) → suc r * 6 + k ≡ suc (suc (suc (suc (suc (suc (r * 6 + k))))))
-six r k = omega arith
-
-pub word-at : (rows : List Row) (r k : ℕ) → r < length rows → k < 6 → getD (rowsWords rows) (r * 6 + k) 0 ≡ word (getD rows r Free) k
-unfolding rowsWords
-word-at [] r k h l = absurd (omega arith)
-word-at (Free ∷ rows) zero k h l = rw (zero-add k) (List·getD-append (rowWords Free) (rowsWords rows) 0 k l)
-word-at (Used e ∷ rows) zero k h l = rw (zero-add k) (List·getD-append (rowWords (Used e)) (rowsWords rows) 0 k l)
-word-at (Free ∷ rows) (suc r) k h l = rw (six r k) (word-at rows r k (le-of-suc-le-suc h) l)
-word-at (Used e ∷ rows) (suc r) k h l = rw (six r k) (word-at rows r k (le-of-suc-le-suc h) l)
+    let e : suc n * width ≡ width + n * width = omega arith in
+    let d : rowAt k + width ≡ rowAt (suc k) = omega arith in
+    rw (e, take-add width (n * width) (drop (rowAt k) ws), drop-drop width (rowAt k) ws, d, list-at ws k (omega arith), f k (omega arith) (omega arith))
+    (ap (λ (l : List ℕ). listBy (wordsAt ws k) ++ l) (rows-forth n (suc k) ws (omega arith) (λ r a b. f r (omega arith) (omega arith))))

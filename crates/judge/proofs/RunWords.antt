@@ -7,7 +7,7 @@ use native.Mathlib.Omega.{arith}
 use native.Mathlib.Nat.{le-of-suc-le-suc}
 use borrow.Author.Tests.{eq-eqb, ne-eqb}
 use lib.Dec.{eqb}
-use lib.ListN.{length, getD, take, drop, replicate, getD-replicate, length-drop, take-append-drop, List·getD-append}
+use lib.ListN.{length, getD, take, drop, replicate, getD-replicate, length-drop, take-append-drop}
 use lib.Seq.{getD-drop, getD-take, getD-append-add, take-append-seam, length-take-le}
 use Rattle.rules.specs.Addresses.{twice}
 use Rattle.rules.specs.Limits.{mostRows}
@@ -15,16 +15,13 @@ use Rattle.rules.specs.Entries.{if_then_else_}
 use Rattle.rules.proofs.Tests.{choose}
 use Rattle.layout.specs.Layout.{ones}
 use Rattle.layout.specs.Picture.{run, runOf}
+use Rattle.layout.proofs.Cuts.{getD-run}
 use Rattle.layout.proofs.Seams.{length-run}
-use Rattle.judge.specs.Fits.{Ends, Numbers, RunFits, numbers}
+use Rattle.judge.specs.Fits.{Ends, Below, RunFits, numbers}
 
 -- ---- from a list to words
 
 module _ (n : ℕ) (l : List ℕ) (few : length l ≤ n) where
-  pub run-at : (i : ℕ) → i < length l → getD (run n l) i 0 ≡ getD l i 0
-  unfolding run
-  run-at i h = List·getD-append l _ 0 i h
-
   pub run-take : take (length l) (run n l) ≡ l
   unfolding run
   run-take = take-append-seam l _
@@ -83,7 +80,7 @@ module _ (n k : ℕ) (l : List ℕ) (few : length l ≤ n) (most : k ≤ mostRow
   pub own-numbers : numbers (run n l) ≡ l
   own-numbers =
       let e = length-run n l few in
-      runOf-take (run n l) (length l) (omega arith) (λ i h q. omega (arith, run-at n l few i h, below i h)) (λ i a b. run-ones n l few i a (omega arith))
+      runOf-take (run n l) (length l) (omega arith) (λ i h q. omega (arith, getD-run n i l h, below i h)) (λ i a b. run-ones n l few i a (omega arith))
       ∙ run-take n l few
 
   pub own-run : twice l ≡ false → RunFits (run n l) k
@@ -96,17 +93,17 @@ module _ (n k : ℕ) (l : List ℕ) (few : length l ≤ n) (most : k ≤ mostRow
 -- ---- what the two walks over a run find
 
 module _ {ws : List ℕ} {k n : ℕ} (few : n ≤ mostRows) (e : Ends ws k) where
-  pub numbers-are : Numbers ws k n → numbers ws ≡ take k ws
-  numbers-are f = runOf-take ws k (e .within) (λ i h q. omega (arith, f .below i h)) (e .rest)
+  pub numbers-are : Below ws k n → numbers ws ≡ take k ws
+  numbers-are f = runOf-take ws k (e .within) (λ i h q. omega (arith, f i h)) (e .rest)
 
-  pub run-fits : Numbers ws k n → RunFits ws n
-  run-fits f =
+  pub run-fits : Below ws k n → twice (take k ws) ≡ false → RunFits ws n
+  run-fits f once =
       let q : numbers ws ≡ take k ws = numbers-are f in
       let m : length (take k ws) ≡ k = length-take-le k ws (e .within) in
       record {
         words = run-forth ws k (e .within) (e .rest) ∙ ap (λ (l : List ℕ). run (length ws) l) (sym q);
-        below = rw q (λ i h. rw (getD-take k ws i 0 (omega arith)) (f .below i (omega arith)));
-        once = rw q (f .once);
+        below = rw q (λ i h. rw (getD-take k ws i 0 (omega arith)) (f i (omega arith)));
+        once = rw q once;
       }
 
   module _ (f : RunFits ws n) where
@@ -123,16 +120,10 @@ module _ {ws : List ℕ} {k n : ℕ} (few : n ≤ mostRows) (e : Ends ws k) wher
     not-more h =
         let s = short in
         let o : getD ws k 0 ≡ ones = e .rest k (omega arith) (omega arith) in
-        omega (arith, read k, run-at (length ws) (numbers ws) short k h, f .below k h)
+        omega (arith, read k, getD-run (length ws) k (numbers ws) h, f .below k h)
 
-    length-is : length (numbers ws) ≡ k
+    pub length-is : length (numbers ws) ≡ k
     length-is = omega (arith, not-less, not-more)
 
-    pub numbers-of : Numbers ws k n
-    numbers-of = record {
-      below = λ i h. rw (read i, run-at (length ws) (numbers ws) short i (omega (arith, length-is))) (f .below i (omega (arith, length-is)));
-      once =
-          let t : take k ws ≡ numbers ws =
-          ap (λ (m : ℕ). take m ws) (sym length-is) ∙ ap (λ (l : List ℕ). take (length (numbers ws)) l) (f .words) ∙ run-take (length ws) (numbers ws) short in
-          rw t (f .once);
-    }
+    pub below-of : Below ws k n
+    below-of i h = rw (read i, getD-run (length ws) i (numbers ws) (omega (arith, length-is))) (f .below i (omega (arith, length-is)))

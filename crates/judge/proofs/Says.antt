@@ -1,9 +1,10 @@
 -- What a test says, and what a failed test rules out.
 use Prim.Native.Nat.{ℕ, _≤_}
 use mathlib.Core.Path.{_≡_, refl, sym, _∙_}
-use mathlib.Core.Bool.{Bool, true, false, not, Bool·beq, false≢true}
-use lib.Dec.{eqb, leb}
-use borrow.Author.Tests.{eqb-true, eq-eqb, leb-true, le-leb}
+use mathlib.Core.Bool.{Bool, true, false, _&&_, Bool·beq, false≢true}
+use lib.Dec.{leb}
+use borrow.Author.Tests.{eqb-true, eqb-false, leb-true, le-leb, not-true, not-false}
+use Rattle.rules.proofs.Tests.{both}
 use Rattle.judge.specs.Fits.{Says}
 
 pub no : {X : Type 0} (b : Bool) → b ≡ false → b ≡ true → X
@@ -17,9 +18,6 @@ module _ {P : Type 0} where
   says-yes p = record { sound = λ e. p; complete = λ e. refl }
 
   -- a last test, by which P comes out
-  pub says-eqb : (a b : ℕ) → (a ≡ b → P) → (P → a ≡ b) → Says (eqb a b) P
-  says-eqb a b f g = record { sound = λ e. f (eqb-true a b e); complete = λ p. eq-eqb a b (g p) }
-
   pub says-leb : (a b : ℕ) → (a ≤ b → P) → (P → a ≤ b) → Says (leb a b) P
   says-leb a b f g = record { sound = λ e. f (leb-true a b e); complete = λ p. le-leb a b (g p) }
 
@@ -30,16 +28,27 @@ module _ {P : Type 0} where
   pub denies : {r : Bool} → Says r P → r ≡ false → P → ⊥
   denies {r} s e p = no r e (s .complete p)
 
--- ---- two flags compared
+-- ---- tests joined by &
 
-pub same : (a b : Bool) → not (Bool·beq a b) ≡ false → a ≡ b
+pub first : (a b : Bool) → a && b ≡ true → a ≡ true
+first a b e = both a b e .0
+
+pub second : (a b : Bool) → a && b ≡ true → b ≡ true
+second a b e = both a b e .1
+
+-- what a test tells, and each of those joined
+pub ruleset told = (first, second, not-true, not-false, eqb-true, eqb-false, leb-true)
+
+-- ---- two tests compared
+
+pub same : (a b : Bool) → Bool·beq a b ≡ true → a ≡ b
 same true true e = refl
-same true false e = no _ e refl
-same false true e = no _ e refl
+same true false e = no _ refl e
+same false true e = no _ refl e
 same false false e = refl
 
-pub differ : (a b : Bool) → not (Bool·beq a b) ≡ true → a ≡ b → ⊥
-differ true true e q = no _ refl e
-differ true false e q = no _ q refl
-differ false true e q = no _ refl q
-differ false false e q = no _ refl e
+pub alike : (a b : Bool) → a ≡ b → Bool·beq a b ≡ true
+alike true true e = refl
+alike true false e = no _ e refl
+alike false true e = no _ refl e
+alike false false e = refl

@@ -21,8 +21,8 @@ use Rattle.rules.specs.Entries.{isListed}
 use Rattle.layout.specs.Layout.{version, settingsAt, headerWords, width, rowAt, recencyAt, addressesAt, layoutWords, modeWord, modeOf}
 use Rattle.layout.specs.Picture.{addressAt, rowsWords, run, headWords, encode, addressOf, entryOf, rowOf, rowsOf, runOf, cacheWith, cacheIn, restIn}
 use Rattle.layout.proofs.ReadBack.{RowAllowed}
-use Rattle.judge.specs.Fits.{RunFits, PartsFit, TableFits, numbers}
-use Rattle.judge.proofs.RowWords.{testRow, firsts, take-firsts, row-used, row-listed, row-allowed, row-address, length-rowsOf, getD-rowsOf, rows-forth}
+use Rattle.judge.specs.Fits.{RunFits, PartsFit, TableFits, numbers, wordsAt}
+use Rattle.judge.proofs.RowWords.{testRow, firsts, take-firsts, row-used, row-listed, row-allowed, row-address, row-forth, length-rowsOf, getD-rowsOf, rows-forth}
 use Rattle.judge.proofs.RunWords.{numbers-front}
 use Rattle.judge.proofs.Numbered.{Numbered, distinct-of, listed-of, once-of, recency-back, order-back, entries-of, none-past}
 
@@ -68,20 +68,20 @@ module _ (ws : List ℕ) (n : ℕ) (long : layoutWords n ≤ length ws)
 
   address-is : (i : ℕ) → i < length order → addressAt rows (getD order i 0) ≡ getD ws (rowAt (getD order i 0)) 0
   unfolding entryOf
-  address-is i h = ap addressOf (row-is (getD order i 0) (order-below i h)) ∙ row-address _ _ _ _ _ _ (f .rows (getD order i 0) (order-below i h))
+  address-is i h = ap addressOf (row-is (getD order i 0) (order-below i h)) ∙ row-address (f .rows (getD order i 0) (order-below i h))
 
   pub numbered-words : Numbered rows recency order
   unfolding entryOf
   numbered-words = record {
-    allowed = by-row (λ r x. RowAllowed x) (λ r h. subst RowAllowed (sym (row-is r h)) (row-allowed _ _ _ _ _ _ (f .rows r h))) (λ r h. tt);
+    allowed = by-row (λ r x. RowAllowed x) (λ r h. subst RowAllowed (sym (row-is r h)) (row-allowed (f .rows r h) (f .notOnes r h))) (λ r h. tt);
     listed =
         by-row (λ r x. elem r recency ≡ testRow isListed x)
-        (λ r h. ap (elem r) (sym recency-numbers) ∙ f .inRecency r h ∙ sym (ap (testRow isListed) (row-is r h) ∙ row-listed _ _ _ _ _ _ (f .rows r h)))
+        (λ r h. ap (elem r) (sym recency-numbers) ∙ sym (ap (testRow isListed) (row-is r h) ∙ row-listed (f .rows r h)))
         (λ r h. none-past n recency recency-below r h);
     once = rw recency-numbers at (f .recencyRun .once);
     used =
         by-row (λ r x. elem r order ≡ testRow (λ e. true) x)
-        (λ r h. ap (elem r) (sym order-numbers) ∙ f .inOrder r h ∙ sym (ap (testRow (λ e. true)) (row-is r h) ∙ row-used _ _ _ _ _ _ (f .rows r h)))
+        (λ r h. ap (elem r) (sym order-numbers) ∙ f .inOrder r h ∙ sym (ap (testRow (λ e. true)) (row-is r h) ∙ row-used (wordsAt ws r)))
         (λ r h. none-past n order order-below r h);
     rises = λ i h. let g = rw order-numbers at (f .rises) in omega (arith, address-is i (omega arith), address-is (i + 1) h, g i h);
   }
@@ -95,10 +95,11 @@ module _ (ws : List ℕ) (n : ℕ) (long : layoutWords n ≤ length ws)
       sym (take-append-drop n (drop at ws)) ∙ ap₂ (λ (x y : List ℕ). x ++ y) e (drop-drop n at ws)
 
   pub body : drop headerWords ws ≡ rowsWords rows ++ (run n recency ++ (run n order ++ drop (layoutWords n) ws))
+  unfolding entryOf
   body =
       sym (take-append-drop (n * width) (drop headerWords ws))
       ∙ ap₂ (λ (x y : List ℕ). x ++ y)
-      (rows-forth n 0 ws (omega arith) (λ r a b. f .rows r (omega arith)))
+      (rows-forth n 0 ws (omega arith) (λ r a b. row-forth (f .rows r (omega arith))))
       (drop-drop (n * width) headerWords ws
       ∙ run-is (recencyAt n) (omega arith) (f .recencyRun)
       ∙ ap (λ (x : List ℕ). run n recency ++ x) (run-is (addressesAt n) (omega arith) (f .orderRun)))
@@ -129,7 +130,7 @@ module _ (ws : List ℕ) (t : TableFits ws) where
 
   head-is : ws ≡ headWords (cacheWith count ws) ++ drop headerWords ws
   head-is =
-      let w : take 8 ws ≡ firsts 8 0 ws = take-firsts 8 0 ws (let h = t .whole in omega arith) in
+      let w : take 8 ws ≡ firsts 8 0 0 ws = take-firsts 8 0 0 ws (let h = t .whole in omega arith) in
       let l : count ≡ length (rowsOf count 0 ws) = sym (length-rowsOf count 0 ws) in
       let m : getD ws 2 0 ≡ modeWord (modeOf (getD ws 2 0)) = sym (mode-forth (getD ws 2 0) (t .opening .mode)) in
       let s : drop 8 ws ≡ settingsWords (settingsOf (drop settingsAt ws)) ++ drop headerWords ws =

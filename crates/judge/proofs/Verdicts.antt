@@ -14,7 +14,8 @@ use Rattle.rules.specs.Allowed.{Allowed}
 use Rattle.rules.specs.Cache.{Cache}
 use Rattle.layout.specs.Layout.{settingsAt, layoutWords}
 use Rattle.layout.specs.Picture.{encode, cacheIn, restIn}
-use Rattle.layout.specs.Holds.{Steady, Good}
+use Rattle.layout.specs.Holds.{Good}
+use Rattle.layout.proofs.Held.{allowed-steady}
 use Rattle.layout.proofs.Numbers.{listed-most, used-most}
 use Rattle.layout.proofs.ReadBack.{cache-back}
 use Rattle.judge.specs.Verdict.{sameWords, judgeWords}
@@ -98,25 +99,12 @@ unique c d rest after a b f g e =
 
 -- ---- good: a table that passes holds a steady cache
 
-steady : (c : Cache) → Allowed c → FloatsFit (c .settings) → Steady c
-steady c a f = record {
-  someRows = a .someRows;
-  rows = a .rows;
-  entries = a .entries;
-  sound = a .sound;
-  settings = a .settings;
-  floats = f;
-  least = a .least;
-  most = a .most;
-  count = a .count;
-}
-
 pub good : (ws : List ℕ) → judgeWords ws ≡ true → Good ws
 good ws h =
     let s = sound ws h in
     record {
       words = s .1;
-      steady = steady (cacheIn ws) (s .0) (floats-of ws);
+      steady = allowed-steady (cacheIn ws) (s .0) (floats-of ws);
       listed = listed-most (cacheIn ws) (s .0 .sound);
       used = used-most (cacheIn ws .rows);
       long = let t = fits-in ws h .long in omega (arith, rows-in ws);

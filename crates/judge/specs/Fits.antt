@@ -1,16 +1,17 @@
 -- What the words of a table are to be, part by part, for the checks of each part.
-use Prim.Native.Nat.{ℕ, _+_, _-_, _≤_, _<_}
+use Prim.Native.Nat.{ℕ, zero, suc, _+_, _-_, _≤_, _<_}
 use mathlib.Core.Path.{_≡_}
 use mathlib.Core.Bool.{Bool, true, false, _&&_}
 use mathlib.Core.List.{List}
 use lib.Dec.{eqb}
 use lib.ListN.{length, getD, take, drop}
 use Rattle.settings_words.specs.Picture.{picture}
-use Rattle.settings_words.specs.Words.{flagOf}
+use Rattle.settings_words.specs.Words.{flagWord, flagOf}
 use Rattle.rules.specs.Addresses.{elem, twice}
 use Rattle.rules.specs.Limits.{mostRows, mostSize, mostIdle, mostThreshold, countStop}
 use Rattle.layout.specs.Layout.{ones, version, settingsAt, headerWords, rowAt, recencyAt, addressesAt, layoutWords}
 use Rattle.layout.specs.Picture.{run, runOf}
+use Rattle.judge.specs.declared.row.RowWords.{RowWords}
 
 -- r says whether P holds.
 pub record Says (r : Bool) (P : Type 0) : Type 0 where
@@ -41,53 +42,63 @@ pub record SettingsFit (ws : List ℕ) (x n h k : ℕ) : Type 0 where
   pub picture : picture ws ≡ true
   pub figures : FiguresFit x n h k (getD ws 4 0) (getD ws 5 0) (getD ws 6 0)
 
--- ---- a row: address, size, dirty, idle, pinned, hold
+-- ---- a row
 
--- The words of a free row but its size.
-pub record FreeFits (a d i p h : ℕ) : Type 0 where
-  pub address : a ≡ 0
-  pub dirty : d ≡ 0
-  pub idle : i ≡ 0
-  pub pinned : p ≡ 0
-  pub hold : h ≡ 0
+-- The words of row r.
+abbrev pub wordsAt : List ℕ → ℕ → RowWords
+wordsAt ws r = record {
+  address = getD ws (rowAt r) 0;
+  size = getD ws (rowAt r + 1) 0;
+  dirty = getD ws (rowAt r + 2) 0;
+  idle = getD ws (rowAt r + 3) 0;
+  pinned = getD ws (rowAt r + 4) 0;
+  hold = getD ws (rowAt r + 5) 0;
+}
 
-pub record EntryFits (a s d i p h : ℕ) : Type 0 where
-  pub address : a ≡ ones → ⊥
-  pub size : s ≤ mostSize
-  pub dirty : d ≤ 1
-  pub idle : i ≤ mostIdle
-  pub pinned : p ≤ 1
-  pub hold : h ≤ 65_536
+-- All words of a free row are 0, and it is not listed.
+pub record FreeFits (w : RowWords) (listed : Bool) : Type 0 where
+  pub listing : listed ≡ false
+  pub address : w .address ≡ 0
+  pub size : w .size ≡ 0
+  pub dirty : w .dirty ≡ 0
+  pub idle : w .idle ≡ 0
+  pub pinned : w .pinned ≡ 0
+  pub hold : w .hold ≡ 0
 
--- A row of size 0 is free.
-pub record RowFits (a s d i p h : ℕ) : Type 0 where
-  pub free : s ≡ 0 → FreeFits a d i p h
-  pub used : (s ≡ 0 → ⊥) → EntryFits a s d i p h
+pub record SizeFits (s : ℕ) : Type 0 where
+  pub some : s ≡ 0 → ⊥
+  pub most : s ≤ mostSize
 
--- Row r of a table.
-abbrev pub FitsAt : List ℕ → ℕ → Type 0
-FitsAt ws r =
-    RowFits (getD ws (rowAt r) 0) (getD ws (rowAt r + 1) 0) (getD ws (rowAt r + 2) 0) (getD ws (rowAt r + 3) 0) (getD ws (rowAt r + 4) 0)
-    (getD ws (rowAt r + 5) 0)
+-- The words of an entry but its address. It is listed if it is neither held nor pinned.
+pub record EntryFits (w : RowWords) (listed : Bool) : Type 0 where
+  pub size : SizeFits (w .size)
+  pub dirty : w .dirty ≤ 1
+  pub idle : w .idle ≤ mostIdle
+  pub pinned : w .pinned ≤ 1
+  pub hold : w .hold ≤ 65_536
+  pub listing : listed ≡ (eqb (w .hold) 0 && eqb (w .pinned) 0)
 
--- Whether a row is used, and whether it stands in the recency list, by its words.
+pub data RowFits (w : RowWords) (listed : Bool) : Type 0 where
+  free : FreeFits w listed → RowFits w listed
+  entry : EntryFits w listed → RowFits w listed
+
+-- Whether row r is used, and whether it is marked.
 abbrev pub usedAt : List ℕ → ℕ → Bool
-usedAt ws r = flagOf (getD ws (rowAt r + 1) 0)
+usedAt ws r = flagOf (wordsAt ws r .size)
 
-abbrev pub listedWords : ℕ → ℕ → ℕ → Bool
-listedWords s p h = flagOf s && eqb h 0 && eqb p 0
+abbrev pub markAt : List Bool → ℕ → Bool
+markAt listed r = getD listed r false
 
-abbrev pub listedAt : List ℕ → ℕ → Bool
-listedAt ws r = listedWords (getD ws (rowAt r + 1) 0) (getD ws (rowAt r + 4) 0) (getD ws (rowAt r + 5) 0)
+-- How many numbers below n pass a test.
+unfoldable pub tally : (ℕ → Bool) → ℕ → ℕ
+tally test zero = 0
+tally test (suc n) = tally test n + flagWord (test n)
 
--- A row that fits, with its marks from the two runs.
-pub record MarkedRow (ws : List ℕ) (listed used : List Bool) (r : ℕ) : Type 0 where
-  pub fits : FitsAt ws r
-  pub inRecency : getD listed r false ≡ listedAt ws r
-  pub inOrder : getD used r false ≡ usedAt ws r
-
-abbrev pub MarkedRows : List ℕ → ℕ → List Bool → List Bool → Type 0
-MarkedRows ws n listed used = (r : ℕ) → r < n → MarkedRow ws listed used r
+-- n rows that fit, the marked ones as listed, of which k are used and l are marked.
+pub record CountedRows (ws : List ℕ) (n : ℕ) (listed : List Bool) (k l : ℕ) : Type 0 where
+  pub rows : (r : ℕ) → r < n → RowFits (wordsAt ws r) (markAt listed r)
+  pub used : tally (usedAt ws) n ≡ k
+  pub marked : tally (markAt listed) n ≡ l
 
 -- ---- a run
 
@@ -97,10 +108,9 @@ pub record Ends (ws : List ℕ) (k : ℕ) : Type 0 where
   pub rest : (i : ℕ) → k ≤ i → i < length ws → getD ws i 0 ≡ ones
   pub last : 0 < k → getD ws (k - 1) 0 ≡ ones → ⊥
 
--- The first k words of a run are numbers of different rows, of n.
-pub record Numbers (ws : List ℕ) (k n : ℕ) : Type 0 where
-  pub below : (i : ℕ) → i < k → getD ws i 0 < n
-  pub once : twice (take k ws) ≡ false
+-- The first k words of a run are numbers of rows, of n.
+abbrev pub Below : List ℕ → ℕ → ℕ → Type 0
+Below ws k n = (i : ℕ) → i < k → getD ws i 0 < n
 
 -- No row is marked yet.
 pub record Unmarked (seen : List Bool) : Type 0 where
@@ -109,12 +119,19 @@ pub record Unmarked (seen : List Bool) : Type 0 where
 
 -- r says whether the first k words are numbers, and then the rows that they name are marked.
 pub record Marked (r : Bool) (ws : List ℕ) (k n : ℕ) (seen : List Bool) : Type 0 where
-  pub says : Says r (Numbers ws k n)
+  pub says : Says r (Below ws k n)
   pub shows : r ≡ true → (x : ℕ) → getD seen x false ≡ elem x (take k ws)
 
 -- The first k words of a run lead to rising addresses.
 abbrev pub Rises : List ℕ → List ℕ → ℕ → Type 0
-Rises ws order k = (i : ℕ) → i + 1 < k → getD ws (rowAt (getD order i 0)) 0 < getD ws (rowAt (getD order (i + 1) 0)) 0
+Rises ws order k = (i : ℕ) → i + 1 < k → wordsAt ws (getD order i 0) .address < wordsAt ws (getD order (i + 1) 0) .address
+
+-- The first k words of the address run are numbers of rows, of n, with rising addresses, none of them all ones; the first row is used.
+pub record OrderFits (ws order : List ℕ) (k n : ℕ) : Type 0 where
+  pub below : Below order k n
+  pub first : 0 < k → usedAt ws (getD order 0 0) ≡ true
+  pub rises : Rises ws order k
+  pub notOnes : (i : ℕ) → i < k → wordsAt ws (getD order i 0) .address ≡ ones → ⊥
 
 -- ---- the parts together
 
@@ -125,15 +142,15 @@ numbers ws = runOf (length ws) ws
 -- A run of different row numbers, of n, then all ones.
 pub record RunFits (ws : List ℕ) (n : ℕ) : Type 0 where
   pub words : ws ≡ run (length ws) (numbers ws)
-  pub below : (i : ℕ) → i < length (numbers ws) → getD (numbers ws) i 0 < n
+  pub below : Below (numbers ws) (length (numbers ws)) n
   pub once : twice (numbers ws) ≡ false
 
 -- The rows of a table, and its two runs.
 pub record PartsFit (ws recency order : List ℕ) (n : ℕ) : Type 0 where
   pub recencyRun : RunFits recency n
   pub orderRun : RunFits order n
-  pub rows : (r : ℕ) → r < n → FitsAt ws r
-  pub inRecency : (r : ℕ) → r < n → elem r (numbers recency) ≡ listedAt ws r
+  pub rows : (r : ℕ) → r < n → RowFits (wordsAt ws r) (elem r (numbers recency))
+  pub notOnes : (r : ℕ) → r < n → wordsAt ws r .address ≡ ones → ⊥
   pub inOrder : (r : ℕ) → r < n → elem r (numbers order) ≡ usedAt ws r
   pub rises : Rises ws (numbers order) (length (numbers order))
 

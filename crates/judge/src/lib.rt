@@ -4,9 +4,20 @@
 // as no cache has. The words past the layout's end are not judged. A table that passes has the words
 // of one cache only.
 //
-//     judge            the header, then
-//     parts_allowed    the two runs, one pass each from the back, which mark the rows that they name;
-//                      the rows, one pass, each compared with its marks; and the rising addresses
+//     judge               the header: version, row count, mode and threshold; a table as long as its
+//                         rows ask for; settings, maximum, counters and byte count
+//     parts_allowed       what comes after the header, in one pass for each part:
+//         mark_rows       the recency run: row numbers, whose rows are marked
+//         rows_allowed    the rows: each free or with an entry, and marked if that is to be listed
+//         addresses_rise  the address run: row numbers, whose rows have rising addresses
+//
+// Neither run is searched for a row that stands twice or is missing: it is enough to count.
+// - The rows marked are those to be listed. As many rows are marked as the recency run has words, so
+//   no two of its words name one row.
+// - Rows with rising addresses are different rows. A free row has address 0, so only the first of them
+//   can be free, and that is tested. As many rows are used as the address run has words, so it names
+//   all of them.
+// - All ones is the largest word, so of rising addresses only the last can be all ones.
 ghost use mathlib.Core.Path.{_≡_};
 ghost use Prim.Native.Nat.{_≤_};
 ghost use lib.ListN.{length};
@@ -16,6 +27,7 @@ ghost use Rattle.judge.specs.Fits.{Says, PartsFit};
 ghost use Rattle.judge.specs.Verdict.{judgeWords};
 
 mod header;
+mod row;
 mod rows;
 mod runs;
 
@@ -32,8 +44,8 @@ use layout::SETTINGS_AT;
 use layout::THRESHOLD_AT;
 use layout::VERSION_AT;
 use layout::WIDTH;
-use rows::addresses_rise;
 use rows::rows_allowed;
+use runs::addresses_rise;
 use runs::mark_rows;
 use runs::run_length;
 
@@ -49,12 +61,8 @@ fn parts_allowed(table: &[u64], recency: &[u64], order: &[u64], rows: usize) -> 
     if !mark_rows(recency, recent, rows, &mut listed) {
         return false;
     }
-    let mut used = [false; MOST_ROWS];
     let ordered = run_length(order);
-    if !mark_rows(order, ordered, rows, &mut used) {
-        return false;
-    }
-    if !rows_allowed(table, rows, &listed, &used) {
+    if !rows_allowed(table, rows, &listed, ordered, recent) {
         return false;
     }
     addresses_rise(table, rows, order, ordered)

@@ -1,101 +1,62 @@
--- `rows_allowed` says whether every row fits and agrees with its marks. The invariant: the rows passed do.
-use Prim.Native.Nat.{ℕ, _-_, _≤_, _<_}
-use mathlib.Core.Path.{sym, _∙_}
+-- `rows_allowed` says whether every row fits and is marked as it is to be, and how many are used and marked. The invariant: it is so of the
+-- rows passed.
+use Prim.Native.Nat.{_-_, _≤_}
+use mathlib.Core.Path.{_≡_}
+use mathlib.Core.Logic.{⊎-elim}
 use native.Mathlib.Omega.{arith}
-use borrow.Author.Count.{below-more}
-use borrow.Author.Tests.{not-true, not-false}
+use borrow.Author.Tests.{eq-eqb, not-true, not-false}
 use borrow.Author.Needs.{needs}
-use Rattle.judge.specs.Fits.{MarkedRow}
-use Rattle.judge.proofs.Says.{says-no, says-yes, denies, same, differ}
-use Rattle.judge.proofs.rows.rows_allowed.Tie as tie
+use Rattle.judge.specs.Fits.{CountedRows, markAt}
+use Rattle.judge.proofs.Says.{says-no, denies, told}
+use Rattle.judge.proofs.Counting.{counted-none, few-used, few-marked, counted-entry, counted-free, counted-as, same-used, same-marked, entry-of, free-of}
+use Rattle.judge.proofs.RowWords.{flag-low}
 use Rattle.judge.proofs.rows.rows_allowed.Statement.{statement}
+use Rattle.judge.proofs.rows.rows_allowed.Tie as tie
 
 abbrev Inv-loop : tie.InvT-loop
-Inv-loop table rows listed used i₀ i = (i ≤ rows) × ((r : ℕ) → r < i → MarkedRow table listed used r)
+Inv-loop table rows listed used marked entries₀ marks₀ i₀ entries marks i = (i ≤ rows) × CountedRows table i listed entries marks
 
 abbrev μ-loop : tie.MeasureT-loop
-μ-loop table rows listed used i₀ i = rows - i
+μ-loop table rows listed used marked entries₀ marks₀ i₀ entries marks i = rows - i
 
 loop-holds : tie.Need-loop-holds Inv-loop μ-loop
-loop-holds c = (omega arith, λ r h. absurd (omega arith))
+loop-holds c = (omega arith, counted-none)
 
-mul-at : tie.Need-mul-at Inv-loop μ-loop
-mul-at c = search needs
+words-at-requires : tie.Need-words-at-requires Inv-loop μ-loop
+words-at-requires c κs = search needs
 
-add-at : tie.Need-add-at Inv-loop μ-loop
-add-at c = search needs
+element-copy-out-mark : tie.Need-element-copy-out-mark Inv-loop μ-loop
+element-copy-out-mark c = search needs
 
-add-size : tie.Need-add-size Inv-loop μ-loop
-add-size c = search needs
+size-allowed-requires : tie.Need-size-allowed-requires Inv-loop μ-loop
+size-allowed-requires c κs = search needs
 
-mul-size : tie.Need-mul-size Inv-loop μ-loop
-mul-size c = search needs
-
-shared-slice-read-size : tie.Need-shared-slice-read-size Inv-loop μ-loop
-shared-slice-read-size c = search needs
-
-add-pinned : tie.Need-add-pinned Inv-loop μ-loop
-add-pinned c = search needs
-
-mul-pinned : tie.Need-mul-pinned Inv-loop μ-loop
-mul-pinned c = search needs
-
-shared-slice-read-pinned : tie.Need-shared-slice-read-pinned Inv-loop μ-loop
-shared-slice-read-pinned c = search needs
-
-add-hold : tie.Need-add-hold Inv-loop μ-loop
-add-hold c = search needs
-
-mul-hold : tie.Need-mul-hold Inv-loop μ-loop
-mul-hold c = search needs
-
-shared-slice-read-hold : tie.Need-shared-slice-read-hold Inv-loop μ-loop
-shared-slice-read-hold c = search needs
-
-mul-row-allowed : tie.Need-mul-row-allowed Inv-loop μ-loop
-mul-row-allowed c = search needs
-
-shared-slice-read-row-allowed : tie.Need-shared-slice-read-row-allowed Inv-loop μ-loop
-shared-slice-read-row-allowed c = search needs
-
-add-row-allowed : tie.Need-add-row-allowed Inv-loop μ-loop
-add-row-allowed c = search needs
-
-mul-row-allowed-2 : tie.Need-mul-row-allowed-2 Inv-loop μ-loop
-mul-row-allowed-2 c = search needs
-
-shared-slice-read-row-allowed-2 : tie.Need-shared-slice-read-row-allowed-2 Inv-loop μ-loop
-shared-slice-read-row-allowed-2 c = search needs
-
-add-row-allowed-2 : tie.Need-add-row-allowed-2 Inv-loop μ-loop
-add-row-allowed-2 c = search needs
-
-mul-row-allowed-3 : tie.Need-mul-row-allowed-3 Inv-loop μ-loop
-mul-row-allowed-3 c = search needs
-
-shared-slice-read-row-allowed-3 : tie.Need-shared-slice-read-row-allowed-3 Inv-loop μ-loop
-shared-slice-read-row-allowed-3 c = search needs
-
-row-allowed-requires : tie.Need-row-allowed-requires Inv-loop μ-loop
-row-allowed-requires c κs = search needs
+entry-allowed-requires : tie.Need-entry-allowed-requires Inv-loop μ-loop
+entry-allowed-requires c κs = c .before .size-allowed .ensures .sound (c .if1 .taken)
 
 returns : tie.Need-returns Inv-loop μ-loop
-returns c = says-no (λ p. denies (c .before .row-allowed .ensures) (not-true _ (c .if1 .taken)) (p _ (omega arith) .fits))
+returns c =
+    says-no (λ p. denies (c .before .entry-allowed .ensures) (not-true _ (c .if2 .taken))
+    (entry-of (rw (c .before .before .before .before .before .words-at .ensures) (p .rows (c .before .before .before .before .before .before .before .loop .i) (omega arith))) (c .before .before .before .size-allowed .ensures .sound (c .before .before .if1 .taken))))
 
-element-copy-out-if2 : tie.Need-element-copy-out-if2 Inv-loop μ-loop
-element-copy-out-if2 c = search needs
+add-entries : tie.Need-add-entries Inv-loop μ-loop
+add-entries c = omega (arith, few-used (c .before .before .before .before .before .before .before .loop .inv .1))
 
-is-listed-requires : tie.Need-is-listed-requires Inv-loop μ-loop
-is-listed-requires c κs = search needs
+free-allowed-requires : tie.Need-free-allowed-requires Inv-loop μ-loop
+free-allowed-requires c κs = search needs
 
 returns-2 : tie.Need-returns-2 Inv-loop μ-loop
-returns-2 c = says-no (λ p. differ _ _ (c .if2 .taken) (p _ (omega arith) .inRecency ∙ sym (c .before .is-listed .ensures)))
+returns-2 c =
+    says-no (λ p. denies (c .before .free-allowed .ensures) (not-true _ (c .if3 .taken))
+    (free-of (rw (c .before .before .before .before .before .words-at .ensures) (p .rows (c .before .before .before .before .before .before .before .loop .i) (omega arith))) (denies (c .before .before .before .size-allowed .ensures) (c .before .before .if1 .left))))
 
-element-copy-out-if3 : tie.Need-element-copy-out-if3 Inv-loop μ-loop
-element-copy-out-if3 c = search needs
+flag-word-requires : tie.Need-flag-word-requires Inv-loop μ-loop
+flag-word-requires c κs = search needs
 
-returns-3 : tie.Need-returns-3 Inv-loop μ-loop
-returns-3 c = says-no (λ p. differ _ _ (c .if3 .taken) (p _ (omega arith) .inOrder))
+add-marks : tie.Need-add-marks Inv-loop μ-loop
+add-marks c =
+    let h : c .flag-word .result ≤ 1 = rw (c .flag-word .ensures) (flag-low (markAt (c .before .before .before .before .before .before .before .before .args .listed .now) (c .before .before .before .before .before .before .loop .i))) in
+    omega (arith, h, few-marked (c .before .before .before .before .before .before .loop .inv .1))
 
 add-i : tie.Need-add-i Inv-loop μ-loop
 add-i c = search needs
@@ -106,16 +67,20 @@ loop-less c = search needs
 loop-again : tie.Need-loop-again Inv-loop μ-loop
 loop-again c = (
   omega arith,
-  below-more _ _ (c .before .before .before .before .before .before .before .before .before .before .before .before .before .before .loop .inv .1)
-      (record {
-        fits = c .before .before .before .before .before .before .row-allowed .ensures .sound (not-false _ (c .before .before .before .before .before .if1 .left));
-        inRecency = same _ _ (c .before .before .if2 .left) ∙ c .before .before .before .is-listed .ensures;
-        inOrder = same _ _ (c .if3 .left);
-      }),
+  ⊎-elim
+      (λ w. counted-entry (c .before .before .before .before .before .before .loop .inv .1) (c .flag-word .ensures) (rw (← c .before .before .before .before .words-at .ensures) (w .1 .ensures .sound (not-false _ (w .2 .left)))) (w .3))
+      (λ w. counted-free (c .before .before .before .before .before .before .loop .inv .1) (c .flag-word .ensures) (rw (← c .before .before .before .before .words-at .ensures) (w .1 .ensures .sound (not-false _ (w .2 .left)))) (w .3))
+      (c .before .if1 .came),
 )
 
-returns-4 : tie.Need-returns-4 Inv-loop μ-loop
-returns-4 c = says-yes (λ r h. c .before .loop .inv .1 r (omega arith))
+returns-3 : tie.Need-returns-3 Inv-loop μ-loop
+returns-3 c =
+    let e : c .before .loop .i ≡ c .before .before .before .args .rows = omega arith in
+    let k = rw e at (c .before .loop .inv .1) in
+    record {
+      sound = λ t. counted-as k (search told) (search told);
+      complete = λ p. rw (eq-eqb _ _ (same-used k p), eq-eqb _ _ (same-marked k p));
+    }
 
 pub rows-allowed-spec : {M : Type 1} → statement M
 rows-allowed-spec =
@@ -124,33 +89,17 @@ rows-allowed-spec =
     Inv-loop
     μ-loop
     loop-holds
-    mul-at
-    add-at
-    add-size
-    mul-size
-    shared-slice-read-size
-    add-pinned
-    mul-pinned
-    shared-slice-read-pinned
-    add-hold
-    mul-hold
-    shared-slice-read-hold
-    mul-row-allowed
-    shared-slice-read-row-allowed
-    add-row-allowed
-    mul-row-allowed-2
-    shared-slice-read-row-allowed-2
-    add-row-allowed-2
-    mul-row-allowed-3
-    shared-slice-read-row-allowed-3
-    row-allowed-requires
+    words-at-requires
+    element-copy-out-mark
+    size-allowed-requires
+    entry-allowed-requires
     returns
-    element-copy-out-if2
-    is-listed-requires
+    add-entries
+    free-allowed-requires
     returns-2
-    element-copy-out-if3
-    returns-3
+    flag-word-requires
+    add-marks
     add-i
     loop-less
     loop-again
-    returns-4)
+    returns-3)

@@ -1,22 +1,19 @@
--- `mark_rows` says whether the words are numbers of different rows, and marks these. The invariant is `Kept`: so it is from the word at
--- hand on.
+-- `mark_rows` says whether the words are numbers of rows, and marks these. The invariant is `Kept`: so it is up to the word at hand.
+use Prim.Native.Nat.{_-_}
 use native.Mathlib.Omega.{arith}
 use borrow.Author.Needs.{needs}
-use Rattle.judge.proofs.Marking.{Kept, kept-start, kept-on, says-high, says-twice, says-all}
-use Rattle.judge.proofs.runs.mark_rows.Tie as tie
+use Rattle.judge.proofs.Marking.{Kept, kept-start, kept-on, says-high, says-all}
 use Rattle.judge.proofs.runs.mark_rows.Statement.{statement}
+use Rattle.judge.proofs.runs.mark_rows.Tie as tie
 
 abbrev Inv-loop : tie.InvT-loop
 Inv-loop run n rows seen₀ i₀ seen i = Kept run n rows seen i
 
 abbrev μ-loop : tie.MeasureT-loop
-μ-loop run n rows seen₀ i₀ seen i = i
+μ-loop run n rows seen₀ i₀ seen i = n - i
 
 loop-holds : tie.Need-loop-holds Inv-loop μ-loop
 loop-holds c = kept-start _ _ (c .args .rows) _ (omega arith) (c .pre .1 .1)
-
-sub-i : tie.Need-sub-i Inv-loop μ-loop
-sub-i c = search needs
 
 mul-row : tie.Need-mul-row Inv-loop μ-loop
 mul-row c = search needs
@@ -27,23 +24,20 @@ shared-slice-read-row c = search needs
 returns : tie.Need-returns Inv-loop μ-loop
 returns c = says-high (c .before .before .before .loop .inv) (omega arith) (omega arith)
 
-element-copy-out-if2 : tie.Need-element-copy-out-if2 Inv-loop μ-loop
-element-copy-out-if2 c = search needs
-
-returns-2 : tie.Need-returns-2 Inv-loop μ-loop
-returns-2 c = says-twice (c .before .before .before .before .before .loop .inv) (omega arith) (c .if2 .taken)
-
 element-write-seen : tie.Need-element-write-seen Inv-loop μ-loop
 element-write-seen c = search needs
+
+add-i : tie.Need-add-i Inv-loop μ-loop
+add-i c = search needs
 
 loop-less : tie.Need-loop-less Inv-loop μ-loop
 loop-less c = search needs
 
 loop-again : tie.Need-loop-again Inv-loop μ-loop
-loop-again c = kept-on (c .before .before .before .before .before .loop .inv) (omega arith) (omega arith) (omega arith) (c .if2 .left)
+loop-again c = kept-on (c .before .before .before .loop .inv) (omega arith) (omega arith) (omega arith)
 
-returns-3 : tie.Need-returns-3 Inv-loop μ-loop
-returns-3 c = says-all (c .before .loop .inv) (omega arith)
+returns-2 : tie.Need-returns-2 Inv-loop μ-loop
+returns-2 c = says-all (c .before .loop .inv) (omega arith)
 
 pub mark-rows-spec : {M : Type 1} → statement M
 mark-rows-spec =
@@ -52,13 +46,11 @@ mark-rows-spec =
     Inv-loop
     μ-loop
     loop-holds
-    sub-i
     mul-row
     shared-slice-read-row
     returns
-    element-copy-out-if2
-    returns-2
     element-write-seen
+    add-i
     loop-less
     loop-again
-    returns-3)
+    returns-2)
