@@ -140,7 +140,8 @@ static void open_cache(void) {
 /* ---- records */
 
 static unsigned char *new_contents(uint64_t address) {
-    sizes[address] = 1 + (uint64_t)rand() % (rand() % 8 == 0 ? PLACE_BYTES : 300);
+    uint64_t most = rand() % 8 == 0 ? PLACE_BYTES : 300;
+    sizes[address] = 1 + (uint64_t)rand() % most;
     memset(expected[address], rand() % 256, sizes[address]);
     return memcpy(allocated(sizes[address]), expected[address], sizes[address]);
 }
@@ -172,7 +173,9 @@ static void discard(uint64_t address) {
     sizes[address] = 0;
 }
 
-static void play(uint64_t address, int chance) {
+static void play(void) {
+    uint64_t address = (uint64_t)rand() % PLACES;
+    int chance = rand() % 10;
     if (sizes[address] == 0) {
         create(address);
     } else if (chance < 1) {
@@ -208,7 +211,7 @@ int main(int count, char **arguments) {
     }
     open_cache();
     for (int step = 0; step < STEPS; step++) {
-        play((uint64_t)rand() % PLACES, rand() % 10);
+        play();
     }
     read_back();
     printf("%u writes, %u loads, %u requests undone\n", writes, loads, undone);
