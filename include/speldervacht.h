@@ -21,10 +21,22 @@
  * discard before the next one, the standby takes each list before the next list or change, and no
  * such change is refused by only one of them. So the host asks both about a change (speldervacht_ask),
  * and does it at both if both would accept it; a table gets no other request between its yes and the
- * doing. If one would answer NO_ROW, the lead flushes or syncs, the standby takes the list, and the
- * host asks again; at NOT_IN_CACHE, HELD, NOT_HELD and PIN_FORBIDS the entry is protected, released or
+ * doing. If one would answer NO_ROW, the lead flushes, the standby takes the list, and the host asks
+ * again; at NOT_IN_CACHE, HELD, NOT_HELD and PIN_FORBIDS the entry is protected, released or
  * unpinned there first. docs/RULES.md, "A change that one of them refuses", has an example and each
  * number.
+ *
+ * What a host does, and when (docs/HOSTING.md says why, and what to do at each refusal):
+ *
+ * - Orders are carried out before the table's next request: the writes and the load first, the
+ *   evictions last. The host copies the table before a request; if an order fails, it puts the copy
+ *   back, and all is as if the request had not come.
+ * - At a changed release the new bytes are in memory already: its orders may write and evict this very
+ *   record. After any release the record may be gone. An insert's orders never name the new record,
+ *   whose bytes come into memory after them.
+ * - A protect names the record's size, so the host keeps all sizes outside the cache.
+ * - A lead sends its list when the disk has what was written.
+ * - A table that a crash may have caught amid a call is not used again, even if it is not refused.
  *
  * The host lends memory for each call and the library keeps none of its own:
  *
@@ -156,7 +168,7 @@ enum speldervacht_kind {
 };
 
 /* The kinds of order. An order is three words: kind, address, size. The host carries out the orders
- * of a request in their order before its next request. */
+ * of a request before its next request, in their order; evictions may come last. */
 enum speldervacht_order {
     SPELDERVACHT_WRITE = 1, /* write the record; its entry is clean now */
     SPELDERVACHT_EVICT = 2, /* forget the record; its entry is gone */

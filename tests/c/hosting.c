@@ -1,6 +1,7 @@
 /* What docs/HOSTING.md says: its C, which tests/run takes from it into hosting.h, and what orders may be.
  * Also compiles as C++. */
 #include "expect.h"
+#include "random.h"
 #include "speldervacht.h"
 
 #include <string.h>
@@ -170,14 +171,6 @@ static void end_of_epoch(void) {
 
 /* How often a request's orders named its own record, by request, kind of order and mode. */
 static unsigned own[SPELDERVACHT_CONFIGURE + 1][SPELDERVACHT_LOAD + 1][MODES];
-
-static uint64_t below(uint64_t n) {
-    static uint64_t random = 88172645463325252u;
-    random ^= random << 13;
-    random ^= random >> 7;
-    random ^= random << 17;
-    return (random >> 11) % n;
-}
 
 static void expect_orders(uint64_t mode, uint64_t kind, uint64_t address, uint64_t count) {
     int lists = kind == SPELDERVACHT_FLUSH || kind == SPELDERVACHT_SYNC;
