@@ -42,7 +42,8 @@
  *
  *   table    uint64_t[SPELDERVACHT_TABLE_WORDS(rows)]    one cache, from one call to the next
  *   orders   uint64_t[SPELDERVACHT_ORDER_WORDS(rows)]    what a request tells the host to do
- *   list     const uint64_t[]                            addresses, for a standby's take
+ *   list     const uint64_t[]                            addresses, for a standby's take; those that
+ *                                                        are sent have up to SPELDERVACHT_LIST_WORDS(rows)
  *
  * The table, with n rows:
  *
