@@ -110,6 +110,19 @@ static void own_release(void) {
     expect(orders[3] == SPELDERVACHT_EVICT && orders[4] == 100 && orders[5] == 3000, "evict 100 3000");
 }
 
+/* A pinned record that nobody holds is made dirty by a resize, stays, and is written by a flush. */
+static void pinned_change(void) {
+    open_cache(SPELDERVACHT_ALONE, small_settings());
+    step(SPELDERVACHT_PROTECT_FOR_READING, 100, 10);
+    step(SPELDERVACHT_PIN, 100, 0);
+    step(SPELDERVACHT_RELEASE_UNCHANGED, 100, 0);
+    expect(speldervacht_report(table, TABLE).dirty == 0, "it is clean");
+    expect(step(SPELDERVACHT_RESIZE, 100, 10).number == SPELDERVACHT_ACCEPTED, "a resize to the same size");
+    expect(speldervacht_report(table, TABLE).dirty == 10, "it is dirty");
+    expect(step(SPELDERVACHT_INSERT, 200, 3000).orders == 0, "room is not made of it");
+    expect(step(SPELDERVACHT_FLUSH, 0, 0).orders == 2 && orders[1] == 100, "a flush writes it");
+}
+
 /* A lead whose rows are dirty and whose bytes are few: a sync writes nothing, unless all is to be clean. */
 static void no_row(void) {
     speldervacht_settings settings = small_settings();
@@ -221,6 +234,7 @@ static void random_requests(void) {
 int main(void) {
     pair();
     own_release();
+    pinned_change();
     no_row();
     evictions_off();
     end_of_epoch();
