@@ -21,16 +21,29 @@
  * discard before the next one, the standby takes each list before the next list or change, and no
  * such change is refused by only one of them. So the host asks both about a change (speldervacht_ask),
  * and does it at both if both would accept it; a table gets no other request between its yes and the
- * doing. If one would answer NO_ROW, the lead flushes or syncs, the standby takes the list, and the
- * host asks again; at NOT_IN_CACHE, HELD, NOT_HELD and PIN_FORBIDS the entry is protected, released or
+ * doing. If one would answer NO_ROW, the lead flushes, the standby takes the list, and the host asks
+ * again; at NOT_IN_CACHE, HELD, NOT_HELD and PIN_FORBIDS the entry is protected, released or
  * unpinned there first. docs/RULES.md, "A change that one of them refuses", has an example and each
  * number.
+ *
+ * What a host does, and when (docs/HOSTING.md says why, and what to do at each refusal):
+ *
+ * - Orders are carried out before the table's next request: the writes and the load first, the
+ *   evictions last. The host copies the table before a request; if an order fails, it puts the copy
+ *   back, and all is as if the request had not come.
+ * - At a changed release the new bytes are in memory already: its orders may write and evict this very
+ *   record. After any release the record may be gone. An insert's orders never name the new record,
+ *   whose bytes come into memory after them.
+ * - A protect names the record's size, so the host keeps all sizes outside the cache.
+ * - A lead sends its list when the disk has what was written.
+ * - A table that a crash may have caught amid a call is not used again, even if it is not refused.
  *
  * The host lends memory for each call and the library keeps none of its own:
  *
  *   table    uint64_t[SPELDERVACHT_TABLE_WORDS(rows)]    one cache, from one call to the next
  *   orders   uint64_t[SPELDERVACHT_ORDER_WORDS(rows)]    what a request tells the host to do
- *   list     const uint64_t[]                            addresses, for a standby's take
+ *   list     const uint64_t[]                            addresses, for a standby's take; those that
+ *                                                        are sent have up to SPELDERVACHT_LIST_WORDS(rows)
  *
  * The table, with n rows:
  *
@@ -91,11 +104,20 @@ extern "C" {
 #define SPELDERVACHT_STATIC_ASSERT(test, words) _Static_assert(test, words)
 #endif
 
+/* ---- version, of the header and the library; a table's version is its layout's and counts apart */
+
+#define SPELDERVACHT_VERSION_MAJOR 0
+#define SPELDERVACHT_VERSION_MINOR 1
+#define SPELDERVACHT_VERSION_PATCH 0
+#define SPELDERVACHT_VERSION "0.1.0"
+
 /* ---- sizes and limits */
 
 /* The words of a table, and of the orders that one request may give. */
 #define SPELDERVACHT_TABLE_WORDS(rows) (29 + 8 * (size_t)(rows))
 #define SPELDERVACHT_ORDER_WORDS(rows) (3 * (2 * (size_t)(rows) + 1))
+/* The most addresses of a list that a lead with so many rows sends, or a standby with so many takes. */
+#define SPELDERVACHT_LIST_WORDS(rows) ((size_t)(rows))
 
 /* Rows of a table: 1 to this. */
 #define SPELDERVACHT_MOST_ROWS 4096
@@ -147,7 +169,7 @@ enum speldervacht_kind {
 };
 
 /* The kinds of order. An order is three words: kind, address, size. The host carries out the orders
- * of a request in their order before its next request. */
+ * of a request before its next request, in their order; evictions may come last. */
 enum speldervacht_order {
     SPELDERVACHT_WRITE = 1, /* write the record; its entry is clean now */
     SPELDERVACHT_EVICT = 2, /* forget the record; its entry is gone */
@@ -205,26 +227,26 @@ enum speldervacht_decrease {
 typedef struct speldervacht_settings {
     uint64_t evictions;         /*  1: evictions: 0 is off, all else on; off only with all rules off */
     uint64_t preset;            /*  2: whether the initial size is set; needed at opening */
-    uint64_t initial;           /*  3: the maximum to begin with, in [smallest, largest] */
+    uint64_t initial;           /*  3: initial size, the maximum to begin with, in [smallest, largest] */
     double clean;               /*  4: minimum clean fraction, in [0, 1]: the share to be clean or unused */
-    uint64_t largest;           /*  5: the maximum never exceeds it; SMALLEST_CACHE to LARGEST_CACHE */
-    uint64_t smallest;          /*  6: the maximum never falls below it; SMALLEST_CACHE to largest */
-    uint64_t epoch;             /*  7: accesses in an epoch; SHORTEST_EPOCH to LONGEST_EPOCH */
-    uint64_t increase_kind;     /*  8: enum speldervacht_increase */
+    uint64_t largest;           /*  5: maximum size, never exceeded; SMALLEST_CACHE to LARGEST_CACHE */
+    uint64_t smallest;          /*  6: minimum size, never fallen below; SMALLEST_CACHE to largest */
+    uint64_t epoch;             /*  7: epoch length in accesses; SHORTEST_EPOCH to LONGEST_EPOCH */
+    uint64_t increase_kind;     /*  8: increase rule: enum speldervacht_increase */
     double increase_lower;      /*     a hit rate below it in a full cache raises the maximum; in [0, 1],
                                        and below decrease_upper where that counts */
     double increase_multiplier; /*     by this factor, in (1, 2] */
-    uint64_t increment_kind;    /*  9: enum speldervacht_cap, for one increase */
+    uint64_t increment_kind;    /*  9: cap on one increase: enum speldervacht_cap */
     uint64_t increment_bytes;   /*     up to SPELDERVACHT_LARGEST_CACHE */
-    uint64_t flash_kind;        /* 10: enum speldervacht_flash */
+    uint64_t flash_kind;        /* 10: flash rule: enum speldervacht_flash */
     double flash_multiple;      /*     of the bytes that come, less free space, in [0.1, 10] */
     double flash_threshold;     /*     of the maximum that these bytes have to exceed, in [0.1, 1] */
-    uint64_t decrease_kind;     /* 11: enum speldervacht_decrease */
+    uint64_t decrease_kind;     /* 11: decrease rule: enum speldervacht_decrease */
     double decrease_upper;      /*     both thresholds: a hit rate above it lowers the maximum, [0, 1] */
     double decrease_multiplier; /*     threshold: by this factor, in [0, 1] */
     uint64_t decrease_epochs;   /*     both age-outs: idle epochs until an entry goes, 1 to 10 */
     double decrease_reserve;    /*     both age-outs: the share to keep empty, in [0, 1] */
-    uint64_t decrement_kind;    /* 12: enum speldervacht_cap, for one decrease */
+    uint64_t decrement_kind;    /* 12: cap on one decrease: enum speldervacht_cap */
     uint64_t decrement_bytes;   /*     up to SPELDERVACHT_LARGEST_CACHE */
 } speldervacht_settings;
 
@@ -329,6 +351,48 @@ static inline speldervacht_request speldervacht_request_of(uint64_t kind, uint64
     request.size = size;
     request.settings = speldervacht_default_settings();
     return request;
+}
+
+/* What an answer's number says, without particulars. */
+static inline const char *speldervacht_text(uint64_t number) {
+    switch (number) {
+    case SPELDERVACHT_ACCEPTED: return "accepted";
+    case SPELDERVACHT_BAD_TABLE:
+        return "the row count is out of limits, the table is too short, or its words picture no cache";
+    case SPELDERVACHT_FEW_ORDER_WORDS: return "the request needs more words for orders than it was lent";
+    case SPELDERVACHT_BAD_ADDRESS: return "all ones is no address";
+    case SPELDERVACHT_BAD_SIZE: return "the size is not within 1 to 134217728 bytes";
+    case SPELDERVACHT_BAD_MODE:
+        return "the request is not for a cache in this mode, or the mode or threshold at opening is bad";
+    case SPELDERVACHT_NOT_IN_CACHE: return "the cache has no entry at the address";
+    case SPELDERVACHT_IN_CACHE: return "the cache has an entry at the address";
+    case SPELDERVACHT_HELD: return "an entry is held for writing or by readers, which forbids the request";
+    case SPELDERVACHT_NOT_HELD: return "the entry lacks the hold that the request needs";
+    case SPELDERVACHT_PIN_FORBIDS: return "the entry is pinned, or for unpin not pinned";
+    case SPELDERVACHT_NO_ROW: return "no row is free and no entry may be evicted";
+    case SPELDERVACHT_BAD_SETTING: return "a setting is bad";
+    case SPELDERVACHT_BAD_LIST: return "the list names an address twice, or one that is not dirty here";
+    default: return "no answer has this number";
+    }
+}
+
+/* What a field of the settings is called, by the number that comes with SPELDERVACHT_BAD_SETTING. */
+static inline const char *speldervacht_field(uint64_t field) {
+    switch (field) {
+    case 1: return "evictions";
+    case 2: return "whether the initial size is set";
+    case 3: return "the initial size";
+    case 4: return "the minimum clean fraction";
+    case 5: return "the maximum size";
+    case 6: return "the minimum size";
+    case 7: return "the epoch length";
+    case 8: return "the increase rule";
+    case 9: return "the cap on one increase";
+    case 10: return "the flash rule";
+    case 11: return "the decrease rule";
+    case 12: return "the cap on one decrease";
+    default: return "no field of the settings has this number";
+    }
 }
 
 #ifdef __cplusplus

@@ -98,6 +98,33 @@ static void count(void) {
     expect(count_after(1) == SPELDERVACHT_COUNT_STOP, "no further");
 }
 
+static uint64_t taken(const uint64_t *list, size_t length) {
+    return checked_step(table, TABLE, NULL, 0, list, length, speldervacht_request_of(SPELDERVACHT_TAKE, 0, 0)).number;
+}
+
+/* A list has at most an address for each row, at the lead that sends it and at the standby that takes it. */
+static void lists(void) {
+    uint64_t list[SPELDERVACHT_LIST_WORDS(ROWS) + 1];
+    const size_t longest = SPELDERVACHT_LIST_WORDS(ROWS);
+    speldervacht_request flush = speldervacht_request_of(SPELDERVACHT_FLUSH, 0, 0);
+    for (uint64_t mode = SPELDERVACHT_LEAD; mode <= SPELDERVACHT_STANDBY; mode++) {
+        expect(speldervacht_open(table, TABLE, ROWS, mode, 1, speldervacht_default_settings()).number ==
+                   SPELDERVACHT_ACCEPTED,
+               "opening a lead or a standby");
+        for (size_t i = 0; i < longest; i++) {
+            list[i] = 1 + i;
+            expect(step(SPELDERVACHT_INSERT, list[i], 1) == SPELDERVACHT_ACCEPTED, "a dirty entry for each row");
+        }
+        list[longest] = 1 + longest;
+        expect(step(SPELDERVACHT_INSERT, list[longest], 1) == SPELDERVACHT_NO_ROW, "no row for another");
+        if (mode == SPELDERVACHT_LEAD) {
+            expect(checked_step(table, TABLE, orders, ORDERS, NULL, 0, flush).orders == longest, "the longest list");
+        }
+    }
+    expect(taken(list, longest + 1) == SPELDERVACHT_BAD_LIST, "a longer list");
+    expect(taken(list, longest) == SPELDERVACHT_ACCEPTED, "the longest list is taken");
+}
+
 /* An entry that nobody uses goes through all idle counts, an epoch each, and stays at the last. */
 static void idle_counts(void) {
     speldervacht_settings settings = speldervacht_default_settings();
@@ -152,6 +179,7 @@ int main(void) {
     entries();
     readers();
     count();
+    lists();
     idle_counts();
     settings_limits();
     return outcome("all limits hold");
