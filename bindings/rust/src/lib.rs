@@ -88,14 +88,55 @@
 //!
 //! docs/RULES.md, "A change that one of them refuses", has an example and each number.
 
+#![no_std]
+
+#[cfg(feature = "alloc")]
+extern crate alloc;
+#[cfg(feature = "std")]
+extern crate std;
+
+#[cfg(feature = "alloc")]
+mod cache;
+#[cfg(feature = "alloc")]
+mod change;
+#[cfg(feature = "std")]
+mod guard;
+#[cfg(feature = "std")]
+mod host;
+#[cfg(feature = "std")]
+mod host_error;
+mod layout;
+#[cfg(feature = "alloc")]
+mod list;
 mod order;
 pub mod raw;
 mod refusal;
+mod request;
 mod settings;
+#[cfg(feature = "std")]
+mod store;
+mod view;
 
+#[cfg(feature = "alloc")]
+pub use cache::{Access, Builder, Cache, Protected};
+#[cfg(feature = "alloc")]
+pub use change::Change;
+#[cfg(feature = "std")]
+pub use guard::{NotChanged, ReadGuard, WriteGuard};
+#[cfg(feature = "std")]
+pub use host::Host;
+#[cfg(feature = "std")]
+pub use host_error::{Call, HostError};
+pub use layout::{order_words, table_words};
+#[cfg(feature = "alloc")]
+pub use list::List;
 pub use order::{Order, OrderKind, Orders};
 pub use refusal::{Hold, Refusal};
+pub use request::Request;
 pub use settings::{Decrease, Flash, Increase, Settings};
+#[cfg(feature = "std")]
+pub use store::Store;
+pub use view::{Entries, Entry, View};
 
 /// The most rows of a table.
 pub const MOST_ROWS: usize = 4_096;
@@ -110,20 +151,6 @@ pub const COUNT_STOP: u64 = 1_099_511_627_776;
 /// The one number that is no address.
 pub const NO_ADDRESS: u64 = u64::MAX;
 
-const HEADER_WORDS: usize = 29;
-const ROW_WORDS: usize = 6;
-const WORDS_FOR_EACH_ROW: usize = 8;
-
-/// The words that a table with so many rows takes.
-pub const fn table_words(rows: usize) -> usize {
-    rows.saturating_mul(WORDS_FOR_EACH_ROW).saturating_add(HEADER_WORDS)
-}
-
-/// The words that the orders of one request may take.
-pub const fn order_words(rows: usize) -> usize {
-    rows.saturating_mul(6).saturating_add(3)
-}
-
 /// What part a cache plays. It is fixed at opening.
 #[derive(Clone, Copy, Debug, PartialEq, Eq)]
 pub enum Mode {
@@ -133,99 +160,6 @@ pub enum Mode {
     Lead,
     /// Never writes; takes the lead's lists.
     Standby,
-}
-
-/// A request. Addresses are any number but all ones; sizes are 1 to 134,217,728 bytes.
-#[derive(Clone, Copy, Debug, PartialEq)]
-pub enum Request<'a> {
-    /// A new record: room is made, and its entry comes, dirty.
-    Insert { address: u64, size: u64 },
-    /// A hold for reading, joining other readers. On a miss, room is made for the size and the
-    /// record is loaded.
-    ProtectForReading { address: u64, size: u64 },
-    /// A hold for writing, which nobody shares. On a miss as for reading.
-    ProtectForWriting { address: u64, size: u64 },
-    /// One hold goes.
-    ReleaseUnchanged { address: u64 },
-    /// The writer's hold goes; the record was changed and has this size now.
-    ReleaseChanged { address: u64, size: u64 },
-    /// A held entry is pinned: it stays until it is unpinned.
-    Pin { address: u64 },
-    /// The pin goes.
-    Unpin { address: u64 },
-    /// An entry that is pinned or held for writing was changed and has this size now.
-    Resize { address: u64, size: u64 },
-    /// The record is gone: its entry goes without an order.
-    Discard { address: u64 },
-    /// Every dirty entry is written, by rising address. For alone and lead; nothing may be held.
-    Flush,
-    /// Entries are written until enough is clean. For the lead.
-    Sync,
-    /// The addresses that the lead wrote at its flush or sync become clean. For the standby.
-    Take { list: &'a [u64] },
-    /// Other settings.
-    Configure { settings: Settings },
-}
-
-impl Request<'_> {
-    /// The address that the request names, or 0.
-    fn address(&self) -> u64 {
-        match *self {
-            Request::Insert { address, .. }
-            | Request::ProtectForReading { address, .. }
-            | Request::ProtectForWriting { address, .. }
-            | Request::ReleaseUnchanged { address }
-            | Request::ReleaseChanged { address, .. }
-            | Request::Pin { address }
-            | Request::Unpin { address }
-            | Request::Resize { address, .. }
-            | Request::Discard { address } => address,
-            Request::Flush | Request::Sync | Request::Take { .. } | Request::Configure { .. } => 0,
-        }
-    }
-
-    /// The size that the request names, or 0.
-    fn size(&self) -> u64 {
-        match *self {
-            Request::Insert { size, .. }
-            | Request::ProtectForReading { size, .. }
-            | Request::ProtectForWriting { size, .. }
-            | Request::ReleaseChanged { size, .. }
-            | Request::Resize { size, .. } => size,
-            _ => 0,
-        }
-    }
-
-    /// The list that the request takes, or none.
-    fn list(&self) -> &[u64] {
-        match self {
-            Request::Take { list } => list,
-            _ => &[],
-        }
-    }
-
-    fn to_raw(self) -> raw::Request {
-        let kind = match self {
-            Request::Insert { .. } => 1,
-            Request::ProtectForReading { .. } => 2,
-            Request::ProtectForWriting { .. } => 3,
-            Request::ReleaseUnchanged { .. } => 4,
-            Request::ReleaseChanged { .. } => 5,
-            Request::Pin { .. } => 6,
-            Request::Unpin { .. } => 7,
-            Request::Resize { .. } => 8,
-            Request::Discard { .. } => 9,
-            Request::Flush => 10,
-            Request::Sync => 11,
-            Request::Take { .. } => 12,
-            Request::Configure { .. } => 13,
-        };
-        let settings = match self {
-            Request::Configure { settings } => settings.to_raw(),
-            _ => raw::Settings::default(),
-        };
-        raw::Request { kind, address: self.address(), size: self.size(), settings }
-    }
 }
 
 /// The figures of a cache. All but `entries` and `due` are in bytes.
