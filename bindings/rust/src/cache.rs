@@ -11,7 +11,9 @@ use core::fmt;
 ///
 /// Each request has a method. Where a request can give orders, they are the answer, to be carried out
 /// in turn before the next request; where by the rules it can give none, the answer is `()`. A
-/// refused request changes nothing. [`Host`](crate::Host) carries the orders out on a store.
+/// refused request changes nothing. [`Host`](crate::Host) carries the orders out on a store, and has
+/// guards that release a record when dropped: a release may give orders, so a guard needs someone to
+/// carry them out.
 ///
 /// The words may be copied, stored and sent: [`as_words`](Cache::as_words) has them,
 /// [`from_words`](Cache::from_words) makes a cache of them. Two caches are equal if these words are.
@@ -117,12 +119,6 @@ impl Cache {
         &self.table
     }
 
-    /// Puts back words that this cache had.
-    #[cfg(feature = "std")]
-    pub(crate) fn put_back(&mut self, words: &[u64]) {
-        self.table.copy_from_slice(words);
-    }
-
     // ---- requests
 
     /// Does a request that stands as a value.
@@ -134,8 +130,22 @@ impl Cache {
         step(&mut self.table, &mut self.orders, request)
     }
 
-    /// Does a request that gives no orders.
-    fn settle(&mut self, request: &Request) -> Result<(), Refusal> {
+    /// Does a request on a copy of the table, for [`exchange`](Cache::exchange) to make it the cache's.
+    #[cfg(feature = "std")]
+    pub(crate) fn step_on_copy(&mut self, copy: &mut Vec<u64>, request: &Request) -> Result<Orders<'_>, Refusal> {
+        copy.clear();
+        copy.extend_from_slice(&self.table);
+        step(copy, &mut self.orders, request)
+    }
+
+    /// Exchanges the table with a copy on which a request was done.
+    #[cfg(feature = "std")]
+    pub(crate) fn exchange(&mut self, copy: &mut Vec<u64>) {
+        core::mem::swap(&mut self.table, copy);
+    }
+
+    /// Does a request that by the rules gives no orders.
+    fn step_quietly(&mut self, request: &Request) -> Result<(), Refusal> {
         self.step(request).map(|orders| debug_assert_eq!(orders.len(), 0))
     }
 
@@ -199,7 +209,7 @@ impl Cache {
     ///
     /// [`Refusal::BadAddress`], [`Refusal::NotInCache`], [`Refusal::NotHeld`], [`Refusal::Pinned`].
     pub fn pin(&mut self, address: u64) -> Result<(), Refusal> {
-        self.settle(&Request::Pin { address })
+        self.step_quietly(&Request::Pin { address })
     }
 
     /// The pin goes.
@@ -208,7 +218,7 @@ impl Cache {
     ///
     /// [`Refusal::BadAddress`], [`Refusal::NotInCache`], [`Refusal::NotPinned`].
     pub fn unpin(&mut self, address: u64) -> Result<(), Refusal> {
-        self.settle(&Request::Unpin { address })
+        self.step_quietly(&Request::Unpin { address })
     }
 
     /// An entry that is pinned or held for writing was changed and has this size now.
@@ -218,7 +228,7 @@ impl Cache {
     /// [`Refusal::BadAddress`], [`Refusal::BadSize`], [`Refusal::NotInCache`], [`Refusal::Held`] by
     /// readers, [`Refusal::NotHeld`].
     pub fn resize(&mut self, address: u64, size: u64) -> Result<(), Refusal> {
-        self.settle(&Request::Resize { address, size })
+        self.step_quietly(&Request::Resize { address, size })
     }
 
     /// The record is gone: its entry goes without an order. An address that the cache does not have is
@@ -228,7 +238,7 @@ impl Cache {
     ///
     /// [`Refusal::BadAddress`], [`Refusal::Held`], [`Refusal::Pinned`].
     pub fn discard(&mut self, address: u64) -> Result<(), Refusal> {
-        self.settle(&Request::Discard { address })
+        self.step_quietly(&Request::Discard { address })
     }
 
     /// Every dirty entry is written, by rising address. At a lead, [`List::of`] the orders is sent.
@@ -256,7 +266,7 @@ impl Cache {
     /// [`Refusal::WrongMode`] unless the cache is a standby, [`Refusal::BadAddress`],
     /// [`Refusal::BadList`].
     pub fn take(&mut self, list: &List) -> Result<(), Refusal> {
-        self.settle(&Request::Take { list: list.addresses() })
+        self.step_quietly(&Request::Take { list: list.addresses() })
     }
 
     /// Other settings.
@@ -319,6 +329,7 @@ impl Cache {
     }
 
     /// The dirty entries by rising address.
+    #[must_use]
     pub fn dirty(&self) -> impl DoubleEndedIterator<Item = Entry> + '_ {
         self.view().dirty()
     }

@@ -1,53 +1,131 @@
 //! A cache, the records that it has, and the store that they come from.
 
-use crate::guard::Releases;
-use crate::{
-    Access, Builder, Cache, Call, Change, HostError, List, Mode, Order, OrderKind, ReadGuard, Refusal, Report, Request,
-    Settings, Store, WriteGuard,
-};
-use core::fmt;
-use std::{
-    collections::{BTreeMap, BTreeSet},
-    sync::Arc,
-    vec,
-    vec::Vec,
-};
+mod error;
+mod guard;
+mod memory;
+mod store;
 
-/// A host: a cache, the bytes of the records that it has, and a store. It carries out the orders of
-/// each request.
+pub use error::{Call, HostError};
+pub use guard::{NotChanged, ReadGuard, WriteGuard};
+pub use store::Store;
+
+use crate::{Access, Builder, Cache, Change, List, Mode, Order, Refusal, Report, Request, Settings};
+use core::fmt;
+use guard::Releases;
+use memory::{Brought, Memory};
+use std::{sync::Arc, vec::Vec};
+
+/// A host: a cache, the records that it has, and the store that they come from. It carries out the
+/// orders of each request.
+///
+/// ```
+/// use speldervacht::{Cache, Host, HostError, Settings, Store};
+/// use std::collections::HashMap;
+///
+/// #[derive(Default)]
+/// struct Records(HashMap<u64, Vec<u8>>);
+///
+/// impl Store for Records {
+///     type Error = String;
+///
+///     fn size(&mut self, address: u64) -> Result<u64, String> {
+///         let record = self.0.get(&address).ok_or(format!("there is no record {address}"))?;
+///         Ok(record.len() as u64)
+///     }
+///
+///     fn read(&mut self, address: u64, bytes: &mut [u8]) -> Result<(), String> {
+///         bytes.copy_from_slice(&self.0[&address]);
+///         Ok(())
+///     }
+///
+///     fn write(&mut self, address: u64, bytes: &[u8]) -> Result<(), String> {
+///         self.0.insert(address, bytes.to_vec());
+///         Ok(())
+///     }
+///
+///     fn sync(&mut self) -> Result<(), String> {
+///         Ok(())
+///     }
+/// }
+///
+/// let mut host = Host::open(&Cache::builder().settings(Settings::fixed(4_096)), Records::default())?;
+/// host.create(100, vec![1; 3_000])?;
+/// host.change(100, vec![2; 2_000])?;
+///
+/// // Two guards at a time, and other requests meanwhile.
+/// let (first, second) = (host.read(100)?, host.read(100)?);
+/// host.create(200, vec![3; 1_000])?;
+/// assert_eq!((first[0], second.len()), (2, 2_000));
+/// drop((first, second));
+///
+/// // Once all is flushed, the store has it.
+/// host.flush()?;
+/// assert_eq!(host.store().0[&100], vec![2; 2_000]);
+/// assert_eq!(host.read(300).unwrap_err().to_string(), "the store failed at size 300: there is no record 300");
+/// # Ok::<(), HostError<String>>(())
+/// ```
+///
+/// # A lead and its standby
+///
+/// Each shared change is a [`Change`], which is asked of both and then done at both. The lead writes at
+/// a flush or sync, and syncs its store before the list is made; the standby takes the list, and never
+/// writes. Its records are in its memory or in the store that it reads.
+///
+/// ```
+/// # use speldervacht::{Cache, Change, Host, HostError, Mode, Settings, Store};
+/// # struct Records;
+/// # impl Store for Records {
+/// #     type Error = String;
+/// #     fn size(&mut self, _: u64) -> Result<u64, String> { Err("empty".into()) }
+/// #     fn read(&mut self, _: u64, _: &mut [u8]) -> Result<(), String> { Err("empty".into()) }
+/// #     fn write(&mut self, _: u64, _: &[u8]) -> Result<(), String> { Ok(()) }
+/// #     fn sync(&mut self) -> Result<(), String> { Ok(()) }
+/// # }
+/// # let (world, same_world) = (Records, Records);
+/// let small = Cache::builder().rows(8).settings(Settings::fixed(4_096));
+/// let mut lead = Host::open(&small.mode(Mode::Lead), world)?;
+/// let mut standby = Host::open(&small.mode(Mode::Standby), same_world)?;
+///
+/// let both = |lead: &mut Host<Records>, standby: &mut Host<Records>, change: Change| {
+///     lead.ask(&change.request())?;
+///     standby.ask(&change.request())?;
+///     lead.apply(&change)?;
+///     standby.apply(&change)
+/// };
+/// both(&mut lead, &mut standby, Change::Insert { address: 100, bytes: [1, 2, 3].into() })?;
+///
+/// // A record is changed while both hold it for writing. The holds go with the guards.
+/// let holds = (lead.write(100)?, standby.write(100)?);
+/// both(&mut lead, &mut standby, Change::Resize { address: 100, bytes: [4, 5].into() })?;
+/// drop(holds);
+///
+/// // If the lead is lost now, the standby has what was not written.
+/// assert_eq!(standby.dirty().next().map(|(address, bytes)| (address, bytes[..].to_vec())), Some((100, vec![4, 5])));
+///
+/// let list = lead.flush()?;
+/// standby.take(&list)?;
+/// assert_eq!(standby.dirty().count(), 0);
+/// # Ok::<(), HostError<String>>(())
+/// ```
 ///
 /// # When the store fails
 ///
-/// A request calls the store in the order of its orders, and then syncs it if need be; only when all
-/// of that went well are records dropped from memory. If a call fails, the table is put back as it was
-/// before the request, no record is dropped or changed, and the error names the call: the same request
-/// may be tried again. Bytes leave memory only if the store has them and was synced since.
+/// A request is done on a copy of the table. The store is called in the order of the orders, and then
+/// synced if need be; when all of that went well, the copy becomes the table, and records are dropped
+/// from memory. If a call fails, table and records are as before the request, and the error names the
+/// call: the same request may be tried again. A record leaves memory only if the store has it and was
+/// synced since.
 ///
-/// The copy of the table costs 64 bytes for each row, at 4,096 rows half of what judging the table
-/// costs. It is made only where the store may be called: alone at every request that can give orders;
-/// at a lead and a standby at a miss, a flush and a sync. What a request evicts stays in memory until
-/// it has loaded.
+/// The copy takes 64 bytes for each row. It is made only where the store may be called: alone at every
+/// request that can give orders; at a lead and a standby at a miss, a flush and a sync. What a request
+/// evicts stays in memory until all its orders are carried out.
 pub struct Host<S> {
     cache: Cache,
-    store: S,
-    /// The records that the cache has, by address.
-    records: BTreeMap<u64, Arc<[u8]>>,
-    /// Clean records that were written and not synced since.
-    unsynced: BTreeSet<u64>,
-    /// Clean records that the store may not have as they are: they are written again before a sync.
-    doubtful: BTreeSet<u64>,
+    memory: Memory<S>,
+    /// What dropped guards held.
     releases: Releases,
-    /// The table before the request that is under way.
-    before: Vec<u64>,
-}
-
-/// What a request's orders have come to so far.
-#[derive(Default)]
-struct Work {
-    /// What was written, or tried to.
-    written: BTreeSet<u64>,
-    evicted: Vec<u64>,
-    loaded: Option<(u64, Arc<[u8]>)>,
+    /// Words for a copy of the table.
+    copy: Vec<u64>,
 }
 
 impl<S: Store> Host<S> {
@@ -57,15 +135,7 @@ impl<S: Store> Host<S> {
     ///
     /// Those of [`Builder::open`].
     pub fn open(builder: &Builder, store: S) -> Result<Host<S>, Refusal> {
-        Ok(Host {
-            cache: builder.open()?,
-            store,
-            records: BTreeMap::new(),
-            unsynced: BTreeSet::new(),
-            doubtful: BTreeSet::new(),
-            releases: Releases::default(),
-            before: Vec::new(),
-        })
+        Ok(Host { cache: builder.open()?, memory: Memory::new(store), releases: Releases::default(), copy: Vec::new() })
     }
 
     // ---- records
@@ -86,7 +156,7 @@ impl<S: Store> Host<S> {
     /// Those of [`Cache::protect_for_reading`], and of the store.
     pub fn read(&mut self, address: u64) -> Result<ReadGuard, HostError<S::Error>> {
         self.protect_for_reading(address)?;
-        Ok(ReadGuard::new(address, self.records[&address].clone(), self.releases.clone()))
+        Ok(ReadGuard::new(address, self.memory.records[&address].clone(), &self.releases))
     }
 
     /// The record, held for writing until the guard is dropped.
@@ -96,14 +166,15 @@ impl<S: Store> Host<S> {
     /// Those of [`Cache::protect_for_writing`], and of the store.
     pub fn write(&mut self, address: u64) -> Result<WriteGuard, HostError<S::Error>> {
         self.protect_for_writing(address)?;
-        Ok(WriteGuard::new(address, self.records[&address].clone(), self.releases.clone()))
+        Ok(WriteGuard::new(address, self.memory.records[&address].clone(), &self.releases))
     }
 
-    /// Changes a record: a protect for writing and a changed release.
+    /// Changes a record, which nobody else holds: a protect for writing and a changed release.
     ///
     /// # Errors
     ///
-    /// Those of [`Cache::protect_for_writing`] and [`Cache::release_changed`], and of the store.
+    /// Those of [`Cache::protect_for_writing`] and [`Cache::release_changed`], and of the store. Then the
+    /// record is as it was.
     pub fn change(&mut self, address: u64, bytes: impl Into<Arc<[u8]>>) -> Result<(), HostError<S::Error>> {
         let guard = self.write(address)?;
         Ok(guard.changed(self, bytes)?)
@@ -177,10 +248,10 @@ impl<S: Store> Host<S> {
     pub fn apply(&mut self, change: &Change) -> Result<(), HostError<S::Error>> {
         self.settle()?;
         let address = change.address();
-        self.perform(&change.request(), change.bytes().map(|bytes| (address, bytes)))?;
+        let clean = self.cache.get(address).is_some_and(|entry| !entry.dirty);
+        self.perform(&change.request(), change.bytes().map(|bytes| Brought { address, bytes, clean }))?;
         if let Change::Discard { .. } = change {
-            self.records.remove(&address);
-            self.no_longer_clean(address);
+            self.memory.forget(address);
         }
         Ok(())
     }
@@ -265,8 +336,11 @@ impl<S: Store> Host<S> {
 
     // ---- questions
 
-    /// What the request of a change would be answered, once dropped guards are released. It holds
-    /// until the next request.
+    /// What a request would be answered, once dropped guards are released. It holds until the next
+    /// request.
+    ///
+    /// A guard that is dropped between the asking and the doing is released first. That takes no yes
+    /// back, but for a change of the record that it held.
     ///
     /// # Errors
     ///
@@ -292,7 +366,7 @@ impl<S: Store> Host<S> {
 
     /// The record, if it is in memory.
     pub fn record(&self, address: u64) -> Option<&Arc<[u8]>> {
-        self.records.get(&address)
+        self.memory.records.get(&address)
     }
 
     /// The dirty records by rising address: what a standby brings in if its lead is lost.
@@ -302,17 +376,21 @@ impl<S: Store> Host<S> {
 
     /// The store.
     pub fn store(&self) -> &S {
-        &self.store
+        &self.memory.store
     }
 
     /// The store, for what the host does not do there.
     pub fn store_mut(&mut self) -> &mut S {
-        &mut self.store
+        &mut self.memory.store
     }
 
     /// The store alone. What was not flushed is lost.
     pub fn into_store(self) -> S {
-        self.store
+        self.memory.store
+    }
+
+    fn releases(&self) -> &Releases {
+        &self.releases
     }
 
     // ---- carrying out
@@ -323,44 +401,36 @@ impl<S: Store> Host<S> {
         request: impl Fn(u64) -> Request<'static>,
     ) -> Result<Access, HostError<S::Error>> {
         self.settle()?;
-        let (access, size) = match self.records.get(&address) {
+        let (access, size) = match self.record(address) {
             Some(record) => (Access::Hit, record.len() as u64),
-            None => (Access::Miss, called(Call::Size { address }, self.store.size(address))?),
+            None => (Access::Miss, self.memory.size(address)?),
         };
         self.perform(&request(size), None)?;
         Ok(access)
     }
 
     /// Does a request, which may bring a record, and carries out its orders.
-    fn perform(
-        &mut self,
-        request: &Request,
-        brought: Option<(u64, &Arc<[u8]>)>,
-    ) -> Result<Vec<Order>, HostError<S::Error>> {
-        if self.may_call_store(request) {
-            self.before.clear();
-            self.before.extend_from_slice(self.cache.as_words());
-        }
-        let orders: Vec<Order> = self.cache.step(request)?.collect();
-        let mut work = Work::default();
+    fn perform(&mut self, request: &Request, brought: Option<Brought>) -> Result<Vec<Order>, HostError<S::Error>> {
+        let copied = self.may_call_store(request);
+        let orders = if copied { self.cache.step_on_copy(&mut self.copy, request) } else { self.cache.step(request) };
+        let orders: Vec<Order> = orders?.collect();
         let durable = matches!(request, Request::Flush | Request::Sync);
-        match self.call_store(&orders, durable, brought, &mut work) {
-            Ok(()) => self.commit(work, brought),
-            Err(error) => {
-                self.put_back(&work, brought);
-                return Err(error);
-            }
+        let work = self.memory.call_store(&orders, durable, brought)?;
+        if copied {
+            self.cache.exchange(&mut self.copy);
         }
+        self.memory.keep(work, brought);
         Ok(orders)
     }
 
-    /// Whether the orders of a request may be writes or loads, by the rules of making room.
+    /// Whether the orders of a request may be writes or loads. At a lead and a standby making room
+    /// only evicts.
     fn may_call_store(&self, request: &Request) -> bool {
         let alone = self.cache.mode() == Mode::Alone;
         match request {
             Request::Flush | Request::Sync => true,
             Request::ProtectForReading { address, .. } | Request::ProtectForWriting { address, .. } => {
-                alone || !self.records.contains_key(address)
+                alone || self.record(*address).is_none()
             }
             Request::Insert { .. }
             | Request::ReleaseUnchanged { .. }
@@ -373,98 +443,10 @@ impl<S: Store> Host<S> {
             | Request::Take { .. } => false,
         }
     }
-
-    /// Writes and loads as the orders say, and syncs if that is wanted or if what is to be evicted is
-    /// not durable yet.
-    fn call_store(
-        &mut self,
-        orders: &[Order],
-        durable: bool,
-        brought: Option<(u64, &Arc<[u8]>)>,
-        work: &mut Work,
-    ) -> Result<(), HostError<S::Error>> {
-        for order in orders {
-            let address = order.address;
-            match order.kind {
-                OrderKind::Write => {
-                    let new = brought.filter(|(brought, _)| *brought == address);
-                    let record = new.map_or_else(|| &self.records[&address], |(_, bytes)| bytes);
-                    work.written.insert(address);
-                    called(Call::Order(*order), self.store.write(address, record))?;
-                }
-                OrderKind::Evict => work.evicted.push(address),
-                OrderKind::Load => {
-                    let mut bytes = vec![0; order.size as usize];
-                    called(Call::Order(*order), self.store.read(address, &mut bytes))?;
-                    work.loaded = Some((address, bytes.into()));
-                }
-            }
-        }
-        let volatile = |address: &u64| {
-            work.written.contains(address) || self.unsynced.contains(address) || self.doubtful.contains(address)
-        };
-        if durable || work.evicted.iter().any(volatile) {
-            self.make_durable(&work.written)?;
-            work.written.clear();
-        }
-        Ok(())
-    }
-
-    /// Writes again what is doubtful and not written just now, and syncs the store.
-    fn make_durable(&mut self, written: &BTreeSet<u64>) -> Result<(), HostError<S::Error>> {
-        for address in self.doubtful.difference(written) {
-            let record = &self.records[address];
-            let order = Order { kind: OrderKind::Write, address: *address, size: record.len() as u64 };
-            called(Call::Order(order), self.store.write(*address, record))?;
-        }
-        let synced = self.store.sync();
-        if synced.is_err() {
-            self.doubtful.append(&mut self.unsynced);
-        } else {
-            self.unsynced.clear();
-            self.doubtful.clear();
-        }
-        called(Call::Sync, synced)
-    }
-
-    /// The records as the accepted request has them.
-    fn commit(&mut self, work: Work, brought: Option<(u64, &Arc<[u8]>)>) {
-        if let Some((address, bytes)) = brought {
-            self.records.insert(address, bytes.clone());
-            self.no_longer_clean(address);
-        }
-        self.records.extend(work.loaded);
-        self.unsynced.extend(work.written);
-        for address in work.evicted {
-            self.records.remove(&address);
-        }
-    }
-
-    /// The table as it was before the request. A record that the request changed may have been written
-    /// as changed: if it is clean, the store may not have it as it is.
-    fn put_back(&mut self, work: &Work, brought: Option<(u64, &Arc<[u8]>)>) {
-        self.cache.put_back(&self.before);
-        if let Some((address, _)) = brought.filter(|(address, _)| work.written.contains(address)) {
-            if self.cache.get(address).is_some_and(|entry| !entry.dirty) {
-                self.unsynced.remove(&address);
-                self.doubtful.insert(address);
-            }
-        }
-    }
-
-    fn no_longer_clean(&mut self, address: u64) {
-        self.unsynced.remove(&address);
-        self.doubtful.remove(&address);
-    }
-}
-
-/// The answer of the store to a call.
-fn called<T, E>(call: Call, answer: Result<T, E>) -> Result<T, HostError<E>> {
-    answer.map_err(|error| HostError::Store { call, error })
 }
 
 impl<S> fmt::Debug for Host<S> {
     fn fmt(&self, f: &mut fmt::Formatter) -> fmt::Result {
-        f.debug_struct("Host").field("cache", &self.cache).field("records", &self.records.len()).finish_non_exhaustive()
+        f.debug_struct("Host").field("cache", &self.cache).finish_non_exhaustive()
     }
 }

@@ -67,6 +67,7 @@ const FIELDS: [&str; 12] = [
 
 impl Refusal {
     /// The number, 1 to 13.
+    #[must_use]
     pub fn number(&self) -> u64 {
         match *self {
             Refusal::BadTable => 1,
@@ -123,8 +124,8 @@ impl Refusal {
 /// The held entry that a request met: the one it names, or the first of all for a flush.
 fn held(table: View, request: &Request) -> Refusal {
     let meant = |address| matches!(request, Request::Flush) || address == request.address();
-    let met = table.rows_used().filter(|entry| meant(entry.address));
-    let found = met.filter_map(|entry| entry.hold.map(|hold| Refusal::Held { address: entry.address, hold })).next();
+    let mut met = table.rows_used().filter(|entry| meant(entry.address));
+    let found = met.find_map(|entry| entry.hold.map(|hold| Refusal::Held { address: entry.address, hold }));
     found.unwrap_or(Refusal::Other { number: 8 })
 }
 

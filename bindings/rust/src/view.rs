@@ -105,6 +105,7 @@ impl<'t> View<'t> {
     }
 
     /// The dirty entries by rising address.
+    #[must_use]
     pub fn dirty(self) -> impl DoubleEndedIterator<Item = Entry> + 't {
         self.entries().filter(|entry| entry.dirty)
     }

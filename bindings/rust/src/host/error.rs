@@ -33,6 +33,16 @@ pub enum HostError<E> {
     Store { call: Call, error: E },
 }
 
+impl<E> HostError<E> {
+    /// The cache's refusal, if that is why.
+    pub fn refusal(&self) -> Option<Refusal> {
+        match self {
+            HostError::Refused(refusal) => Some(*refusal),
+            HostError::Store { .. } => None,
+        }
+    }
+}
+
 impl<E> From<Refusal> for HostError<E> {
     fn from(refusal: Refusal) -> HostError<E> {
         HostError::Refused(refusal)
