@@ -369,6 +369,11 @@ impl<S: Store> Host<S> {
         self.memory.records.get(&address)
     }
 
+    /// The records in memory, by rising address.
+    pub fn records(&self) -> impl Iterator<Item = (u64, &Arc<[u8]>)> + '_ {
+        self.memory.records.iter().map(|(address, record)| (*address, record))
+    }
+
     /// The dirty records by rising address: what a standby brings in if its lead is lost.
     pub fn dirty(&self) -> impl Iterator<Item = (u64, &Arc<[u8]>)> + '_ {
         self.cache.dirty().filter_map(|entry| Some((entry.address, self.record(entry.address)?)))

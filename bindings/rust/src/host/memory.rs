@@ -108,14 +108,11 @@ impl<S: Store> Memory<S> {
             let order = Order { kind: OrderKind::Write, address: *address, size: record.len() as u64 };
             called(Call::Order(order), self.store.write(*address, record))?;
         }
-        let synced = self.store.sync();
-        if synced.is_err() {
-            self.doubtful.append(&mut self.unsynced);
-        } else {
-            self.unsynced.clear();
-            self.doubtful.clear();
-        }
-        called(Call::Sync, synced)
+        // Of what was written since the last sync nothing is relied on until this one went well.
+        self.doubtful.append(&mut self.unsynced);
+        called(Call::Sync, self.store.sync())?;
+        self.doubtful.clear();
+        Ok(())
     }
 
     /// The records as the request leaves them.
