@@ -11,9 +11,11 @@ use support::{books_agree, with_each_failure, Handle, Random};
 const ADDRESSES: usize = 24;
 const LARGEST: usize = 400;
 
-fn settings(maximum: u64) -> Settings {
+/// With a clean fraction of 1 a record that was changed is written at its own release.
+fn settings(maximum: u64, clean_fraction: f64) -> Settings {
     Settings {
         initial_size: Some(maximum),
+        clean_fraction,
         maximum_size: 4_096,
         minimum_size: 1_024,
         epoch_length: 100,
@@ -39,7 +41,7 @@ enum Action {
     Unpin(u64),
     Discard(u64),
     Flush,
-    Configure(u64),
+    Configure(u64, f64),
 }
 
 /// A host and the guards that it gave.
@@ -51,7 +53,7 @@ struct Player {
 
 impl Player {
     fn new() -> Player {
-        let builder = Cache::builder().rows(8).settings(settings(2_048));
+        let builder = Cache::builder().rows(8).settings(settings(2_048, 0.3));
         Player { host: Host::open(&builder, Handle::default()).unwrap(), readers: Vec::new(), writer: None }
     }
 
@@ -77,7 +79,7 @@ impl Player {
             Action::Unpin(address) => host.unpin(address),
             Action::Discard(address) => host.discard(address),
             Action::Flush => host.flush().map(drop),
-            Action::Configure(maximum) => host.configure(&settings(maximum)),
+            Action::Configure(maximum, clean) => host.configure(&settings(maximum, clean)),
         };
         if may_fail {
             with_each_failure(host, attempt)
@@ -120,7 +122,7 @@ impl Play {
             85..=92 => Action::Unpin(address),
             93..=95 => Action::Discard(address),
             96..=97 => Action::Flush,
-            _ => Action::Configure([1_024, 2_048, 4_096][self.random.below(3)]),
+            _ => Action::Configure([1_024, 2_048, 4_096][self.random.below(3)], [0.3, 1.0][self.random.below(2)]),
         })
     }
 
@@ -149,6 +151,21 @@ impl Play {
         self.check();
     }
 
+    /// The writer's record was changed, but its release fails, and the writer gives up.
+    fn give_up(&mut self) {
+        let Some(guard) = self.failing.writer.take() else { return };
+        let (address, bytes) = (guard.address(), self.random.record(LARGEST));
+        let host = &mut self.failing.host;
+        host.store().good_calls.set(Some(self.random.below(4)));
+        let answer = guard.changed(host, bytes.clone()).map_err(HostError::from);
+        host.store().good_calls.set(None);
+        let done = if answer.is_ok() { Action::Changed(bytes.into()) } else { Action::DropWriter };
+        host.settle().unwrap();
+        self.reliable.act(&done, false).unwrap();
+        self.tell(&done, Some(address));
+        self.check();
+    }
+
     fn check(&self) {
         let host = &self.failing.host;
         assert_eq!(host.cache(), self.reliable.host.cache());
@@ -171,6 +188,9 @@ fn neither_books_nor_records_are_lost() {
         let mut play = Play { random: Random::new(seed), truth: BTreeMap::new(), failing, reliable };
         for _ in 0..1_000 {
             play.step();
+            if play.random.below(10) == 0 {
+                play.give_up();
+            }
         }
         // Once nothing is held, a flush makes all of it durable.
         let Player { host, readers, writer } = &mut play.failing;
