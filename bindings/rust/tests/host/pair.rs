@@ -51,7 +51,8 @@ impl Side {
 
 #[derive(Default)]
 struct Tally {
-    changes: usize,
+    /// Inserts, changed releases, resizes and discards.
+    changes: [usize; 4],
     refused: usize,
     lists: usize,
     rescued: usize,
@@ -108,7 +109,13 @@ impl Pair {
             Some(bytes) => drop(self.truth.insert(change.address(), bytes.to_vec())),
             None => drop(self.truth.remove(&change.address())),
         }
-        self.tally.changes += 1;
+        let kind = match change {
+            Change::Insert { .. } => 0,
+            Change::ReleaseChanged { .. } => 1,
+            Change::Resize { .. } => 2,
+            Change::Discard { .. } => 3,
+        };
+        self.tally.changes[kind] += 1;
         true
     }
 
@@ -248,7 +255,9 @@ fn lead_and_standby_stay_in_step() {
         for _ in 0..1_000 {
             pair.step();
         }
-        total.changes += pair.tally.changes;
+        for (sum, changes) in total.changes.iter_mut().zip(pair.tally.changes) {
+            *sum += changes;
+        }
         total.refused += pair.tally.refused;
         total.lists += pair.tally.lists;
         total.rescued += pair.tally.rescued;
@@ -258,8 +267,8 @@ fn lead_and_standby_stay_in_step() {
             }
         }
     }
-    let reached = [total.changes, total.refused, total.lists, total.rescued];
-    assert!(reached.iter().all(|times| *times > 100), "changes, refusals, lists, rescued: {reached:?}");
+    let reached = [&total.changes[..], &[total.refused, total.lists, total.rescued]].concat();
+    assert!(reached.iter().all(|times| *times > 100), "changes of each kind, refusals, lists, rescued: {reached:?}");
     let lead = ["size, Lead", "load, Lead", "write, Lead", "sync, Lead"];
     for call in lead.into_iter().chain(["size, Standby", "load, Standby"]) {
         assert!(failures.get(call).is_some_and(|times| *times > 100), "{call} failed often: {failures:?}");
