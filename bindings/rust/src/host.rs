@@ -321,7 +321,8 @@ impl<S: Store> Host<S> {
     ///
     /// # Errors
     ///
-    /// Those of the store, if the host is alone. The releases that were not done stay to be done.
+    /// Those of the store, if the host is alone: then what was not released stays to be released.
+    /// [`Refusal::NotInCache`] or [`Refusal::NotHeld`] if a guard's hold was released by a request.
     pub fn settle(&mut self) -> Result<(), HostError<S::Error>> {
         while let Some(address) = self.releases.first() {
             match self.perform(&Request::ReleaseUnchanged { address }, None) {
