@@ -149,6 +149,17 @@ fn a_hold_that_is_kept_goes_by_a_request() {
 }
 
 #[test]
+fn a_guard_whose_hold_is_gone_is_told_once() {
+    let mut host = alone(2, 0.0);
+    host.create(100, [1; 10]).unwrap();
+    let guard = host.read(100).unwrap();
+    host.release(100).unwrap();
+    drop(guard);
+    assert_eq!(host.settle(), Err(HostError::Refused(Refusal::NotHeld { address: 100 })));
+    assert_eq!(host.settle(), Ok(()));
+}
+
+#[test]
 fn a_release_that_fails_is_done_later() {
     let mut host = alone(2, 1.0);
     host.create(100, [1; 10]).unwrap();
