@@ -1,53 +1,60 @@
 //! Speldervacht: a metadata cache that keeps the books, while the host reads and writes the
 //! records.
 //!
-//! The host lends three slices of words: a *table* that holds the cache from one request to the
-//! next, words for the *orders* that a request gives, and, for a standby, a *list* of addresses.
-//! [`open`] makes a fresh cache in a table, [`step`] does one request on it, [`ask`] tells what a
-//! request would be answered, [`report`] tells the figures. A request is accepted, and the host
-//! carries out its orders in turn, or it is refused, and then nothing has changed. A table has no
-//! pointers: the host may copy, move or store it between requests, and must not write to it.
-//! docs/RULES.md has each rule.
+//! A request is accepted, and its orders (write, evict, load) are carried out in turn, or it is refused,
+//! and then nothing has changed. docs/RULES.md has each rule. There are three ways to use the crate, one
+//! above the other:
+//!
+//! - [`Host`] has a cache, the records in memory and a [`Store`] that they come from. It carries out the
+//!   orders, and has guards that release a record when dropped. It needs the feature `std`, which is on
+//!   by default.
+//! - [`Cache`] owns its words, and has a method for each request. The caller carries out the orders. It
+//!   needs the feature `alloc`.
+//! - [`open`], [`step`], [`ask`] and [`report`] work on lent words, and [`View`] reads them. They need
+//!   neither `std` nor an allocator.
 //!
 //! Two words have two senses. An entry is *held* while readers or a writer hold it, between protect
 //! and release; *held bytes* are the sizes of all entries, held or not. An entry is *clean* if it is
 //! not dirty; *minimum clean bytes* are what the settings want to be clean or unused.
 //!
+//! # A cache alone
+//!
 //! ```
-//! use speldervacht::{open, order_words, report, step, table_words, Mode, Request, Settings};
+//! use speldervacht::{Access, Cache, Settings};
 //!
 //! // A cache of four entries and 4,096 bytes.
-//! let rows = 4;
-//! let mut table = vec![0; table_words(rows)];
-//! let mut orders = vec![0; order_words(rows)];
 //! let settings = Settings { clean_fraction: 0.0, ..Settings::fixed(4_096) };
-//! open(&mut table, rows, Mode::Alone, speldervacht::DEFAULT_THRESHOLD, &settings)?;
+//! let mut cache = Cache::builder().rows(4).settings(settings).open()?;
 //!
 //! // Two new records fit. The third needs room: both are written, and the oldest leaves.
-//! for (address, size) in [(100, 3_000), (200, 1_000)] {
-//!     let given = step(&mut table, &mut orders, &Request::Insert { address, size })?;
-//!     assert_eq!(given.len(), 0);
-//! }
-//! let given = step(&mut table, &mut orders, &Request::Insert { address: 300, size: 500 })?;
-//! let told: Vec<String> = given.map(|order| order.to_string()).collect();
-//! assert_eq!(told, ["write 100 3000", "write 200 1000", "evict 100 3000"]);
+//! cache.insert(100, 3_000)?;
+//! cache.insert(200, 1_000)?;
+//! let orders: Vec<String> = cache.insert(300, 500)?.map(|order| order.to_string()).collect();
+//! assert_eq!(orders, ["write 100 3000", "write 200 1000", "evict 100 3000"]);
 //!
-//! let figures = report(&table)?;
+//! let figures = cache.report()?;
 //! assert_eq!((figures.held, figures.dirty, figures.entries), (1_500, 500, 2));
+//! assert!(cache.get(300).is_some_and(|entry| entry.dirty));
+//!
+//! // A record is held while it is used. This one is not there any more: the orders load it.
+//! let protected = cache.protect_for_reading(100, 3_000)?;
+//! assert_eq!(protected.access, Access::Miss);
+//! assert_eq!(protected.orders.last().unwrap().to_string(), "load 100 3000");
+//! cache.release(100)?;
 //!
 //! // What a cache does not allow, it refuses.
-//! let refusal = step(&mut table, &mut orders, &Request::Unpin { address: 200 }).unwrap_err();
-//! assert_eq!(refusal.to_string(), "the entry at 200 is not pinned (10)");
+//! let refusal = cache.unpin(100).unwrap_err();
+//! assert_eq!(refusal.to_string(), "the entry at 100 is not pinned (10)");
 //! # Ok::<(), speldervacht::Refusal>(())
 //! ```
 //!
-//! # A lead and a standby
+//! # A lead and its standby
 //!
 //! They have the same dirty records at the same sizes, and the same byte count, if both are opened
 //! with the same threshold, both get every insert, changed release, resize and discard before the
 //! next one, the standby takes each list before the next list or change, and no such change is
-//! refused by only one of them. So the host [`ask`]s both about a change, and does it at both if both
-//! would accept it; a table gets no other request between its yes and the doing. What helps where one
+//! refused by only one of them. So the host asks both about a change, and does it at both if both
+//! would accept it; a cache gets no other request between its yes and the doing. What helps where one
 //! would refuse:
 //!
 //! - [`Refusal::NoRow`]: the lead flushes or syncs, and the standby takes the list. What became clean
@@ -55,47 +62,97 @@
 //! - [`Refusal::NotInCache`], [`Refusal::Held`], [`Refusal::NotHeld`], [`Refusal::Pinned`]: the entry is
 //!   protected, released or unpinned there.
 //!
-//! ```
-//! use speldervacht::{ask, open, order_words, step, table_words, Mode, Refusal, Request, Settings};
+//! docs/RULES.md, "A change that one of them refuses", has an example and each number.
 //!
-//! let (rows, words) = (2, order_words(2));
-//! let mut orders = vec![0; words];
-//! let mut lead = vec![0; table_words(rows)];
-//! let mut standby = lead.clone();
-//! open(&mut lead, rows, Mode::Lead, 1_000, &Settings::fixed(4_096))?;
-//! open(&mut standby, rows, Mode::Standby, 1_000, &Settings::fixed(4_096))?;
+//! ```
+//! use speldervacht::{Cache, List, Mode, Refusal, Request, Settings};
+//!
+//! let small = Cache::builder().rows(2).threshold(1_000).settings(Settings::fixed(4_096));
+//! let mut lead = small.mode(Mode::Lead).open()?;
+//! let mut standby = small.mode(Mode::Standby).open()?;
 //! for address in [100, 200] {
-//!     step(&mut lead, &mut orders, &Request::Insert { address, size: 50 })?;
-//!     step(&mut standby, &mut orders, &Request::Insert { address, size: 50 })?;
+//!     lead.insert(address, 50)?;
+//!     standby.insert(address, 50)?;
 //! }
 //!
 //! // Both rows are dirty at both: neither has room for a third record, and neither is changed.
 //! let insert = Request::Insert { address: 300, size: 50 };
-//! assert_eq!(ask(&lead, words, &insert), Err(Refusal::NoRow));
-//! assert_eq!(ask(&standby, words, &insert), Err(Refusal::NoRow));
+//! assert_eq!(lead.ask(&insert), Err(Refusal::NoRow));
+//! assert_eq!(standby.ask(&insert), Err(Refusal::NoRow));
 //!
 //! // The lead writes and sends its list. The standby takes it.
-//! let written = step(&mut lead, &mut orders, &Request::Flush)?;
-//! let list: Vec<u64> = written.map(|order| order.address).collect();
-//! step(&mut standby, &mut orders, &Request::Take { list: &list })?;
+//! let list = List::of(lead.flush()?);
+//! assert_eq!(list.addresses(), [100, 200]);
+//! standby.take(&list)?;
 //!
 //! // Now both say yes, so both accept it.
-//! assert!(ask(&lead, words, &insert).is_ok() && ask(&standby, words, &insert).is_ok());
-//! step(&mut lead, &mut orders, &insert)?;
-//! step(&mut standby, &mut orders, &insert)?;
+//! assert!(lead.ask(&insert).is_ok() && standby.ask(&insert).is_ok());
+//! lead.step(&insert)?;
+//! standby.step(&insert)?;
+//! assert!(lead.dirty().eq(standby.dirty()));
 //! # Ok::<(), Refusal>(())
 //! ```
 //!
-//! docs/RULES.md, "A change that one of them refuses", has an example and each number.
+//! [`Host`] has the same with the records in it.
+//!
+//! # Lent words
+//!
+//! The host lends a *table* that holds the cache from one request to the next, words for the *orders*
+//! that a request gives, and, for a standby, a *list* of addresses. A table has no pointers: it may be
+//! copied, moved or stored between requests, and nobody else may write to it.
+//!
+//! ```
+//! use speldervacht::{open, order_words, step, table_words, Mode, Request, Settings, View, DEFAULT_THRESHOLD};
+//!
+//! let mut table = [0; table_words(4)];
+//! let mut orders = [0; order_words(4)];
+//! open(&mut table, 4, Mode::Alone, DEFAULT_THRESHOLD, &Settings::fixed(4_096))?;
+//! let given = step(&mut table, &mut orders, &Request::Insert { address: 100, size: 3_000 })?;
+//! assert_eq!(given.len(), 0);
+//! assert_eq!(View::of(&table)?.entries().len(), 1);
+//! # Ok::<(), speldervacht::Refusal>(())
+//! ```
 
+#![no_std]
+#![warn(clippy::pedantic)]
+// The library is for 64-bit machines.
+#![allow(clippy::cast_possible_truncation)]
+
+#[cfg(feature = "alloc")]
+extern crate alloc;
+#[cfg(feature = "std")]
+extern crate std;
+
+#[cfg(feature = "alloc")]
+mod cache;
+#[cfg(feature = "alloc")]
+mod change;
+#[cfg(feature = "std")]
+mod host;
+mod layout;
+#[cfg(feature = "alloc")]
+mod list;
 mod order;
 pub mod raw;
 mod refusal;
+mod request;
 mod settings;
+mod view;
 
+#[cfg(feature = "alloc")]
+pub use cache::{Access, Builder, Cache, Protected};
+#[cfg(feature = "alloc")]
+pub use change::Change;
+#[cfg(feature = "std")]
+pub use host::{Call, Host, HostError, NotChanged, ReadGuard, Store, WriteGuard};
+pub use layout::{order_words, table_words};
+#[cfg(feature = "alloc")]
+pub use list::List;
 pub use order::{Order, OrderKind, Orders};
 pub use refusal::{Hold, Refusal};
+pub use request::Request;
 pub use settings::{Decrease, Flash, Increase, Settings};
+pub use view::{Entries, Entry, View};
 
 /// The most rows of a table.
 pub const MOST_ROWS: usize = 4_096;
@@ -110,20 +167,6 @@ pub const COUNT_STOP: u64 = 1_099_511_627_776;
 /// The one number that is no address.
 pub const NO_ADDRESS: u64 = u64::MAX;
 
-const HEADER_WORDS: usize = 29;
-const ROW_WORDS: usize = 6;
-const WORDS_FOR_EACH_ROW: usize = 8;
-
-/// The words that a table with so many rows takes.
-pub const fn table_words(rows: usize) -> usize {
-    rows.saturating_mul(WORDS_FOR_EACH_ROW).saturating_add(HEADER_WORDS)
-}
-
-/// The words that the orders of one request may take.
-pub const fn order_words(rows: usize) -> usize {
-    rows.saturating_mul(6).saturating_add(3)
-}
-
 /// What part a cache plays. It is fixed at opening.
 #[derive(Clone, Copy, Debug, PartialEq, Eq)]
 pub enum Mode {
@@ -133,99 +176,6 @@ pub enum Mode {
     Lead,
     /// Never writes; takes the lead's lists.
     Standby,
-}
-
-/// A request. Addresses are any number but all ones; sizes are 1 to 134,217,728 bytes.
-#[derive(Clone, Copy, Debug, PartialEq)]
-pub enum Request<'a> {
-    /// A new record: room is made, and its entry comes, dirty.
-    Insert { address: u64, size: u64 },
-    /// A hold for reading, joining other readers. On a miss, room is made for the size and the
-    /// record is loaded.
-    ProtectForReading { address: u64, size: u64 },
-    /// A hold for writing, which nobody shares. On a miss as for reading.
-    ProtectForWriting { address: u64, size: u64 },
-    /// One hold goes.
-    ReleaseUnchanged { address: u64 },
-    /// The writer's hold goes; the record was changed and has this size now.
-    ReleaseChanged { address: u64, size: u64 },
-    /// A held entry is pinned: it stays until it is unpinned.
-    Pin { address: u64 },
-    /// The pin goes.
-    Unpin { address: u64 },
-    /// An entry that is pinned or held for writing was changed and has this size now.
-    Resize { address: u64, size: u64 },
-    /// The record is gone: its entry goes without an order.
-    Discard { address: u64 },
-    /// Every dirty entry is written, by rising address. For alone and lead; nothing may be held.
-    Flush,
-    /// Entries are written until enough is clean. For the lead.
-    Sync,
-    /// The addresses that the lead wrote at its flush or sync become clean. For the standby.
-    Take { list: &'a [u64] },
-    /// Other settings.
-    Configure { settings: Settings },
-}
-
-impl Request<'_> {
-    /// The address that the request names, or 0.
-    fn address(&self) -> u64 {
-        match *self {
-            Request::Insert { address, .. }
-            | Request::ProtectForReading { address, .. }
-            | Request::ProtectForWriting { address, .. }
-            | Request::ReleaseUnchanged { address }
-            | Request::ReleaseChanged { address, .. }
-            | Request::Pin { address }
-            | Request::Unpin { address }
-            | Request::Resize { address, .. }
-            | Request::Discard { address } => address,
-            Request::Flush | Request::Sync | Request::Take { .. } | Request::Configure { .. } => 0,
-        }
-    }
-
-    /// The size that the request names, or 0.
-    fn size(&self) -> u64 {
-        match *self {
-            Request::Insert { size, .. }
-            | Request::ProtectForReading { size, .. }
-            | Request::ProtectForWriting { size, .. }
-            | Request::ReleaseChanged { size, .. }
-            | Request::Resize { size, .. } => size,
-            _ => 0,
-        }
-    }
-
-    /// The list that the request takes, or none.
-    fn list(&self) -> &[u64] {
-        match self {
-            Request::Take { list } => list,
-            _ => &[],
-        }
-    }
-
-    fn to_raw(self) -> raw::Request {
-        let kind = match self {
-            Request::Insert { .. } => 1,
-            Request::ProtectForReading { .. } => 2,
-            Request::ProtectForWriting { .. } => 3,
-            Request::ReleaseUnchanged { .. } => 4,
-            Request::ReleaseChanged { .. } => 5,
-            Request::Pin { .. } => 6,
-            Request::Unpin { .. } => 7,
-            Request::Resize { .. } => 8,
-            Request::Discard { .. } => 9,
-            Request::Flush => 10,
-            Request::Sync => 11,
-            Request::Take { .. } => 12,
-            Request::Configure { .. } => 13,
-        };
-        let settings = match self {
-            Request::Configure { settings } => settings.to_raw(),
-            _ => raw::Settings::default(),
-        };
-        raw::Request { kind, address: self.address(), size: self.size(), settings }
-    }
 }
 
 /// The figures of a cache. All but `entries` and `due` are in bytes.
@@ -252,6 +202,11 @@ pub struct Report {
 ///
 /// The table needs [`table_words`] of the rows, which are 1 to [`MOST_ROWS`]; words past these are
 /// left alone. The threshold is the byte count above which a list is due.
+///
+/// # Errors
+///
+/// [`Refusal::BadTable`] for the row count or a short table, [`Refusal::BadThreshold`],
+/// [`Refusal::BadSetting`].
 pub fn open(table: &mut [u64], rows: usize, mode: Mode, threshold: u64, settings: &Settings) -> Result<(), Refusal> {
     let mode = match mode {
         Mode::Alone => 0,
@@ -272,6 +227,10 @@ pub fn open(table: &mut [u64], rows: usize, mode: Mode, threshold: u64, settings
 ///
 /// Insert, protect, release, flush, sync and configure can give orders and need [`order_words`] of
 /// the rows; words past the last order are left alone.
+///
+/// # Errors
+///
+/// The refusal of the request. docs/RULES.md, "Refusals", has those of each request.
 pub fn step<'o>(table: &mut [u64], orders: &'o mut [u64], request: &Request) -> Result<Orders<'o>, Refusal> {
     let list = request.list();
     // SAFETY: the slices are ours for the call, and borrowed apart.
@@ -287,7 +246,7 @@ pub fn step<'o>(table: &mut [u64], orders: &'o mut [u64], request: &Request) -> 
         )
     };
     match answer.number {
-        0 => Ok(Orders::new(&orders[..3 * answer.orders as usize])),
+        0 => Ok(Orders::new(&orders[..layout::ORDER_WORDS * answer.orders as usize])),
         number => {
             let verdict = raw::Verdict { number, field: answer.field };
             Err(Refusal::of_request(verdict, table, orders.len(), request))
@@ -299,6 +258,10 @@ pub fn step<'o>(table: &mut [u64], orders: &'o mut [u64], request: &Request) -> 
 ///
 /// What it tells holds as long as the table gets no other request. It costs what judging the table
 /// and testing the request cost, never more than the request itself.
+///
+/// # Errors
+///
+/// The refusal that the request would get.
 pub fn ask(table: &[u64], order_words: usize, request: &Request) -> Result<(), Refusal> {
     let list = request.list();
     // SAFETY: the slices are borrowed for the call.
@@ -311,7 +274,11 @@ pub fn ask(table: &[u64], order_words: usize, request: &Request) -> Result<(), R
     }
 }
 
-/// Tells the figures of the cache in the table; a bad table is refused.
+/// Tells the figures of the cache in the table.
+///
+/// # Errors
+///
+/// [`Refusal::BadTable`] if the words picture no cache.
 pub fn report(table: &[u64]) -> Result<Report, Refusal> {
     // SAFETY: the slice is borrowed for the call.
     let figures = unsafe { raw::speldervacht_report(table.as_ptr(), table.len()) };

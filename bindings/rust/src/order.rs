@@ -1,6 +1,7 @@
 //! The orders of a request.
 
-use std::fmt;
+use crate::layout::ORDER_WORDS;
+use core::fmt;
 
 /// What an order tells the host to do.
 #[derive(Clone, Copy, Debug, PartialEq, Eq)]
@@ -36,12 +37,12 @@ impl fmt::Display for Order {
 /// The orders that one request gave, read from the order words.
 #[derive(Clone, Debug)]
 pub struct Orders<'a> {
-    words: std::slice::ChunksExact<'a, u64>,
+    words: core::slice::ChunksExact<'a, u64>,
 }
 
 impl<'a> Orders<'a> {
     pub(crate) fn new(words: &'a [u64]) -> Orders<'a> {
-        Orders { words: words.chunks_exact(3) }
+        Orders { words: words.chunks_exact(ORDER_WORDS) }
     }
 }
 

@@ -1,7 +1,7 @@
 //! Why a request was refused.
 
-use crate::{order_words, raw, Mode, Request, HEADER_WORDS, LARGEST_ENTRY, LARGEST_THRESHOLD, ROW_WORDS};
-use std::fmt;
+use crate::{order_words, raw, Mode, Request, View, LARGEST_ENTRY, LARGEST_THRESHOLD};
+use core::fmt;
 
 /// A hold on an entry.
 #[derive(Clone, Copy, Debug, PartialEq, Eq)]
@@ -67,6 +67,7 @@ const FIELDS: [&str; 12] = [
 
 impl Refusal {
     /// The number, 1 to 13.
+    #[must_use]
     pub fn number(&self) -> u64 {
         match *self {
             Refusal::BadTable => 1,
@@ -97,19 +98,13 @@ impl Refusal {
 
     /// The refusal of a request, with what the untouched table tells of it.
     pub(crate) fn of_request(verdict: raw::Verdict, table: &[u64], lent: usize, request: &Request) -> Refusal {
-        let address = request.address();
+        let (table, address) = (View::unjudged(table), request.address());
         match verdict.number {
             1 => Refusal::BadTable,
-            2 => Refusal::FewOrderWords { needed: order_words(word(table, 1) as usize), lent },
+            2 => Refusal::FewOrderWords { needed: order_words(table.rows()), lent },
             3 => Refusal::BadAddress,
             4 => Refusal::BadSize { size: request.size() },
-            5 => Refusal::WrongMode {
-                mode: match word(table, 2) {
-                    0 => Mode::Alone,
-                    1 => Mode::Lead,
-                    _ => Mode::Standby,
-                },
-            },
+            5 => Refusal::WrongMode { mode: table.mode() },
             6 => Refusal::NotInCache { address },
             7 => Refusal::InCache { address },
             8 => held(table, request),
@@ -126,26 +121,12 @@ impl Refusal {
     }
 }
 
-fn word(table: &[u64], at: usize) -> u64 {
-    table.get(at).copied().unwrap_or(0)
-}
-
 /// The held entry that a request met: the one it names, or the first of all for a flush.
-fn held(table: &[u64], request: &Request) -> Refusal {
-    let rows = word(table, 1) as usize;
-    let words = table.get(HEADER_WORDS..).unwrap_or(&[]);
-    for row in words.chunks_exact(ROW_WORDS).take(rows) {
-        let (address, size, hold) = (row[0], row[1], row[5]);
-        let meant = matches!(request, Request::Flush) || address == request.address();
-        if size != 0 && hold != 0 && meant {
-            let hold = match hold {
-                65_536 => Hold::Writer,
-                readers => Hold::Readers(readers),
-            };
-            return Refusal::Held { address, hold };
-        }
-    }
-    Refusal::Other { number: 8 }
+fn held(table: View, request: &Request) -> Refusal {
+    let meant = |address| matches!(request, Request::Flush) || address == request.address();
+    let mut met = table.rows_used().filter(|entry| meant(entry.address));
+    let found = met.find_map(|entry| entry.hold.map(|hold| Refusal::Held { address: entry.address, hold }));
+    found.unwrap_or(Refusal::Other { number: 8 })
 }
 
 impl fmt::Display for Refusal {
@@ -200,4 +181,4 @@ impl fmt::Display for Refusal {
     }
 }
 
-impl std::error::Error for Refusal {}
+impl core::error::Error for Refusal {}

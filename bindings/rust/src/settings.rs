@@ -110,6 +110,7 @@ impl Default for Settings {
 
 impl Settings {
     /// A cache whose maximum stays at `size` bytes: no rule is on, the rest is as by default.
+    #[must_use]
     pub fn fixed(size: u64) -> Settings {
         Settings {
             initial_size: Some(size),
@@ -124,16 +125,16 @@ impl Settings {
 
     pub(crate) fn to_raw(self) -> raw::Settings {
         let mut s = raw::Settings {
-            evictions: self.evictions as u64,
-            preset: self.initial_size.is_some() as u64,
+            evictions: self.evictions.into(),
+            preset: self.initial_size.is_some().into(),
             initial: self.initial_size.unwrap_or(0),
             clean: self.clean_fraction,
             largest: self.maximum_size,
             smallest: self.minimum_size,
             epoch: self.epoch_length,
-            increment_kind: self.increase_cap.is_some() as u64,
+            increment_kind: self.increase_cap.is_some().into(),
             increment_bytes: self.increase_cap.unwrap_or(0),
-            decrement_kind: self.decrease_cap.is_some() as u64,
+            decrement_kind: self.decrease_cap.is_some().into(),
             decrement_bytes: self.decrease_cap.unwrap_or(0),
             ..raw::Settings::default()
         };

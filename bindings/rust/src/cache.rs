@@ -1,0 +1,363 @@
+//! A cache that owns its words.
+
+use crate::{
+    ask, open, order_words, report, step, table_words, Entries, Entry, List, Mode, OrderKind, Orders, Refusal, Report,
+    Request, Settings, View, DEFAULT_THRESHOLD,
+};
+use alloc::{vec, vec::Vec};
+use core::fmt;
+
+/// A cache over words of its own: a table, and words for the orders of one request.
+///
+/// Each request has a method. Where a request can give orders, they are the answer, to be carried out
+/// in turn before the next request; where by the rules it can give none, the answer is `()`. A
+/// refused request changes nothing. [`Host`](crate::Host) carries the orders out on a store, and has
+/// guards that release a record when dropped: a release may give orders, so a guard needs someone to
+/// carry them out.
+///
+/// The words may be copied, stored and sent: [`as_words`](Cache::as_words) has them,
+/// [`from_words`](Cache::from_words) makes a cache of them. Two caches are equal if these words are.
+#[derive(Clone)]
+pub struct Cache {
+    table: Vec<u64>,
+    orders: Vec<u64>,
+}
+
+/// Whether a protected record was there.
+#[derive(Clone, Copy, Debug, PartialEq, Eq)]
+pub enum Access {
+    /// It was there.
+    Hit,
+    /// It was not: one of the orders loads it.
+    Miss,
+}
+
+/// The answer to a protect.
+#[derive(Clone, Debug)]
+pub struct Protected<'o> {
+    pub access: Access,
+    /// A hit has orders too, if it ends an epoch.
+    pub orders: Orders<'o>,
+}
+
+/// How a cache is opened. Without more it has 64 rows, is alone, and has the default threshold and
+/// settings.
+#[derive(Clone, Copy, Debug, PartialEq)]
+#[must_use]
+pub struct Builder {
+    rows: usize,
+    mode: Mode,
+    threshold: u64,
+    settings: Settings,
+}
+
+impl Default for Builder {
+    fn default() -> Builder {
+        Builder { rows: 64, mode: Mode::Alone, threshold: DEFAULT_THRESHOLD, settings: Settings::default() }
+    }
+}
+
+impl Builder {
+    /// How many entries the cache can have: 1 to [`MOST_ROWS`](crate::MOST_ROWS).
+    pub fn rows(self, rows: usize) -> Builder {
+        Builder { rows, ..self }
+    }
+
+    /// What part the cache plays.
+    pub fn mode(self, mode: Mode) -> Builder {
+        Builder { mode, ..self }
+    }
+
+    /// The byte count above which a list is due: 1 to [`LARGEST_THRESHOLD`](crate::LARGEST_THRESHOLD).
+    /// A lead and its standby have the same.
+    pub fn threshold(self, threshold: u64) -> Builder {
+        Builder { threshold, ..self }
+    }
+
+    /// The settings, which need an initial size.
+    pub fn settings(self, settings: Settings) -> Builder {
+        Builder { settings, ..self }
+    }
+
+    /// Opens an empty cache.
+    ///
+    /// # Errors
+    ///
+    /// [`Refusal::BadTable`] for a row count out of limits, [`Refusal::BadThreshold`],
+    /// [`Refusal::BadSetting`].
+    pub fn open(&self) -> Result<Cache, Refusal> {
+        if self.rows > crate::MOST_ROWS {
+            return Err(Refusal::BadTable);
+        }
+        let mut cache = Cache { table: vec![0; table_words(self.rows)], orders: vec![0; order_words(self.rows)] };
+        open(&mut cache.table, self.rows, self.mode, self.threshold, &self.settings)?;
+        Ok(cache)
+    }
+}
+
+impl Cache {
+    /// What a cache is opened with: `Cache::builder().rows(64).mode(Mode::Lead).open()`.
+    pub fn builder() -> Builder {
+        Builder::default()
+    }
+
+    /// A cache of the words of a table. Words past the layout's end are cut off.
+    ///
+    /// # Errors
+    ///
+    /// [`Refusal::BadTable`] if the words picture no cache.
+    pub fn from_words(words: impl Into<Vec<u64>>) -> Result<Cache, Refusal> {
+        let mut table = words.into();
+        let rows = View::of(&table)?.rows();
+        table.truncate(table_words(rows));
+        Ok(Cache { table, orders: vec![0; order_words(rows)] })
+    }
+
+    /// The words of the table.
+    #[must_use]
+    pub fn as_words(&self) -> &[u64] {
+        &self.table
+    }
+
+    // ---- requests
+
+    /// Does a request that stands as a value.
+    ///
+    /// # Errors
+    ///
+    /// The refusal of the request, which has changed nothing.
+    pub fn step(&mut self, request: &Request) -> Result<Orders<'_>, Refusal> {
+        step(&mut self.table, &mut self.orders, request)
+    }
+
+    /// Does a request on a copy of the table, for [`exchange`](Cache::exchange) to make it the cache's.
+    #[cfg(feature = "std")]
+    pub(crate) fn step_on_copy(&mut self, copy: &mut Vec<u64>, request: &Request) -> Result<Orders<'_>, Refusal> {
+        copy.clear();
+        copy.extend_from_slice(&self.table);
+        step(copy, &mut self.orders, request)
+    }
+
+    /// Exchanges the table with a copy on which a request was done.
+    #[cfg(feature = "std")]
+    pub(crate) fn exchange(&mut self, copy: &mut Vec<u64>) {
+        core::mem::swap(&mut self.table, copy);
+    }
+
+    /// Does a request that by the rules gives no orders.
+    fn step_quietly(&mut self, request: &Request) -> Result<(), Refusal> {
+        self.step(request).map(|orders| debug_assert_eq!(orders.len(), 0))
+    }
+
+    fn protect(&mut self, request: &Request) -> Result<Protected<'_>, Refusal> {
+        let orders = self.step(request)?;
+        let missed = orders.clone().any(|order| order.kind == OrderKind::Load);
+        Ok(Protected { access: if missed { Access::Miss } else { Access::Hit }, orders })
+    }
+
+    /// A new record: room is made, and its entry comes, dirty.
+    ///
+    /// # Errors
+    ///
+    /// [`Refusal::BadAddress`], [`Refusal::BadSize`], [`Refusal::InCache`], [`Refusal::NoRow`].
+    pub fn insert(&mut self, address: u64, size: u64) -> Result<Orders<'_>, Refusal> {
+        self.step(&Request::Insert { address, size })
+    }
+
+    /// A hold for reading, joining other readers. On a miss, room is made for the size and the record
+    /// is loaded.
+    ///
+    /// # Errors
+    ///
+    /// [`Refusal::BadAddress`], [`Refusal::BadSize`], [`Refusal::Held`] by a writer or by 65,535
+    /// readers, [`Refusal::NoRow`].
+    pub fn protect_for_reading(&mut self, address: u64, size: u64) -> Result<Protected<'_>, Refusal> {
+        self.protect(&Request::ProtectForReading { address, size })
+    }
+
+    /// A hold for writing, which nobody shares. On a miss as for reading.
+    ///
+    /// # Errors
+    ///
+    /// [`Refusal::BadAddress`], [`Refusal::BadSize`], [`Refusal::Held`], [`Refusal::NoRow`].
+    pub fn protect_for_writing(&mut self, address: u64, size: u64) -> Result<Protected<'_>, Refusal> {
+        self.protect(&Request::ProtectForWriting { address, size })
+    }
+
+    /// One hold goes, the record unchanged.
+    ///
+    /// # Errors
+    ///
+    /// [`Refusal::BadAddress`], [`Refusal::NotInCache`], [`Refusal::NotHeld`].
+    pub fn release(&mut self, address: u64) -> Result<Orders<'_>, Refusal> {
+        self.step(&Request::ReleaseUnchanged { address })
+    }
+
+    /// The writer's hold goes; the record was changed and has this size now.
+    ///
+    /// # Errors
+    ///
+    /// [`Refusal::BadAddress`], [`Refusal::BadSize`], [`Refusal::NotInCache`], [`Refusal::Held`] by
+    /// readers, [`Refusal::NotHeld`].
+    pub fn release_changed(&mut self, address: u64, size: u64) -> Result<Orders<'_>, Refusal> {
+        self.step(&Request::ReleaseChanged { address, size })
+    }
+
+    /// A held entry is pinned: it stays until it is unpinned.
+    ///
+    /// # Errors
+    ///
+    /// [`Refusal::BadAddress`], [`Refusal::NotInCache`], [`Refusal::NotHeld`], [`Refusal::Pinned`].
+    pub fn pin(&mut self, address: u64) -> Result<(), Refusal> {
+        self.step_quietly(&Request::Pin { address })
+    }
+
+    /// The pin goes.
+    ///
+    /// # Errors
+    ///
+    /// [`Refusal::BadAddress`], [`Refusal::NotInCache`], [`Refusal::NotPinned`].
+    pub fn unpin(&mut self, address: u64) -> Result<(), Refusal> {
+        self.step_quietly(&Request::Unpin { address })
+    }
+
+    /// An entry that is pinned or held for writing was changed and has this size now.
+    ///
+    /// # Errors
+    ///
+    /// [`Refusal::BadAddress`], [`Refusal::BadSize`], [`Refusal::NotInCache`], [`Refusal::Held`] by
+    /// readers, [`Refusal::NotHeld`].
+    pub fn resize(&mut self, address: u64, size: u64) -> Result<(), Refusal> {
+        self.step_quietly(&Request::Resize { address, size })
+    }
+
+    /// The record is gone: its entry goes without an order. An address that the cache does not have is
+    /// accepted.
+    ///
+    /// # Errors
+    ///
+    /// [`Refusal::BadAddress`], [`Refusal::Held`], [`Refusal::Pinned`].
+    pub fn discard(&mut self, address: u64) -> Result<(), Refusal> {
+        self.step_quietly(&Request::Discard { address })
+    }
+
+    /// Every dirty entry is written, by rising address. At a lead, [`List::of`] the orders is sent.
+    ///
+    /// # Errors
+    ///
+    /// [`Refusal::WrongMode`] at a standby, [`Refusal::Held`] if anything is held.
+    pub fn flush(&mut self) -> Result<Orders<'_>, Refusal> {
+        self.step(&Request::Flush)
+    }
+
+    /// Entries are written until enough is clean. [`List::of`] the orders is sent.
+    ///
+    /// # Errors
+    ///
+    /// [`Refusal::WrongMode`] unless the cache is a lead.
+    pub fn sync(&mut self) -> Result<Orders<'_>, Refusal> {
+        self.step(&Request::Sync)
+    }
+
+    /// What the lead wrote becomes clean.
+    ///
+    /// # Errors
+    ///
+    /// [`Refusal::WrongMode`] unless the cache is a standby, [`Refusal::BadAddress`],
+    /// [`Refusal::BadList`].
+    pub fn take(&mut self, list: &List) -> Result<(), Refusal> {
+        self.step_quietly(&Request::Take { list: list.addresses() })
+    }
+
+    /// Other settings.
+    ///
+    /// # Errors
+    ///
+    /// [`Refusal::BadSetting`].
+    pub fn configure(&mut self, settings: &Settings) -> Result<Orders<'_>, Refusal> {
+        self.step(&Request::Configure { settings: *settings })
+    }
+
+    // ---- questions
+
+    /// What a request would be answered. It changes nothing, and holds until the next request.
+    ///
+    /// # Errors
+    ///
+    /// The refusal that the request would get.
+    pub fn ask(&self, request: &Request) -> Result<(), Refusal> {
+        ask(&self.table, self.orders.len(), request)
+    }
+
+    /// The figures of the cache.
+    ///
+    /// # Errors
+    ///
+    /// [`Refusal::BadTable`] if the words were damaged in memory.
+    pub fn report(&self) -> Result<Report, Refusal> {
+        report(&self.table)
+    }
+
+    /// The table, for reading.
+    #[must_use]
+    pub fn view(&self) -> View<'_> {
+        View::unjudged(&self.table)
+    }
+
+    /// The number of rows: how many entries the cache can have.
+    #[must_use]
+    pub fn rows(&self) -> usize {
+        self.view().rows()
+    }
+
+    /// The part that the cache plays.
+    #[must_use]
+    pub fn mode(&self) -> Mode {
+        self.view().mode()
+    }
+
+    /// The byte count above which a list is due.
+    #[must_use]
+    pub fn threshold(&self) -> u64 {
+        self.view().threshold()
+    }
+
+    /// The entries by rising address.
+    #[must_use]
+    pub fn entries(&self) -> Entries<'_> {
+        self.view().entries()
+    }
+
+    /// The dirty entries by rising address.
+    #[must_use]
+    pub fn dirty(&self) -> impl DoubleEndedIterator<Item = Entry> + '_ {
+        self.view().dirty()
+    }
+
+    /// The entry at the address, by a binary search.
+    #[must_use]
+    pub fn get(&self, address: u64) -> Option<Entry> {
+        self.view().get(address)
+    }
+
+    /// The entries that are neither held nor pinned, from the next to go to the newest.
+    #[must_use]
+    pub fn recency(&self) -> Entries<'_> {
+        self.view().recency()
+    }
+}
+
+impl PartialEq for Cache {
+    fn eq(&self, other: &Cache) -> bool {
+        self.table == other.table
+    }
+}
+
+impl Eq for Cache {}
+
+impl fmt::Debug for Cache {
+    /// The figures, not the words.
+    fn fmt(&self, f: &mut fmt::Formatter) -> fmt::Result {
+        self.view().fmt(f)
+    }
+}

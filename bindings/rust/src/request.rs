@@ -1,0 +1,96 @@
+//! A request as a value.
+
+use crate::{raw, Settings};
+
+/// A request. Addresses are any number but all ones; sizes are 1 to 134,217,728 bytes.
+#[derive(Clone, Copy, Debug, PartialEq)]
+pub enum Request<'a> {
+    /// A new record: room is made, and its entry comes, dirty.
+    Insert { address: u64, size: u64 },
+    /// A hold for reading, joining other readers. On a miss, room is made for the size and the
+    /// record is loaded.
+    ProtectForReading { address: u64, size: u64 },
+    /// A hold for writing, which nobody shares. On a miss as for reading.
+    ProtectForWriting { address: u64, size: u64 },
+    /// One hold goes.
+    ReleaseUnchanged { address: u64 },
+    /// The writer's hold goes; the record was changed and has this size now.
+    ReleaseChanged { address: u64, size: u64 },
+    /// A held entry is pinned: it stays until it is unpinned.
+    Pin { address: u64 },
+    /// The pin goes.
+    Unpin { address: u64 },
+    /// An entry that is pinned or held for writing was changed and has this size now.
+    Resize { address: u64, size: u64 },
+    /// The record is gone: its entry goes without an order.
+    Discard { address: u64 },
+    /// Every dirty entry is written, by rising address. For alone and lead; nothing may be held.
+    Flush,
+    /// Entries are written until enough is clean. For the lead.
+    Sync,
+    /// The addresses that the lead wrote at its flush or sync become clean. For the standby.
+    Take { list: &'a [u64] },
+    /// Other settings.
+    Configure { settings: Settings },
+}
+
+impl Request<'_> {
+    /// The address that the request names, or 0.
+    pub(crate) fn address(&self) -> u64 {
+        match *self {
+            Request::Insert { address, .. }
+            | Request::ProtectForReading { address, .. }
+            | Request::ProtectForWriting { address, .. }
+            | Request::ReleaseUnchanged { address }
+            | Request::ReleaseChanged { address, .. }
+            | Request::Pin { address }
+            | Request::Unpin { address }
+            | Request::Resize { address, .. }
+            | Request::Discard { address } => address,
+            Request::Flush | Request::Sync | Request::Take { .. } | Request::Configure { .. } => 0,
+        }
+    }
+
+    /// The size that the request names, or 0.
+    pub(crate) fn size(&self) -> u64 {
+        match *self {
+            Request::Insert { size, .. }
+            | Request::ProtectForReading { size, .. }
+            | Request::ProtectForWriting { size, .. }
+            | Request::ReleaseChanged { size, .. }
+            | Request::Resize { size, .. } => size,
+            _ => 0,
+        }
+    }
+
+    /// The list that the request takes, or none.
+    pub(crate) fn list(&self) -> &[u64] {
+        match self {
+            Request::Take { list } => list,
+            _ => &[],
+        }
+    }
+
+    pub(crate) fn to_raw(self) -> raw::Request {
+        let kind = match self {
+            Request::Insert { .. } => 1,
+            Request::ProtectForReading { .. } => 2,
+            Request::ProtectForWriting { .. } => 3,
+            Request::ReleaseUnchanged { .. } => 4,
+            Request::ReleaseChanged { .. } => 5,
+            Request::Pin { .. } => 6,
+            Request::Unpin { .. } => 7,
+            Request::Resize { .. } => 8,
+            Request::Discard { .. } => 9,
+            Request::Flush => 10,
+            Request::Sync => 11,
+            Request::Take { .. } => 12,
+            Request::Configure { .. } => 13,
+        };
+        let settings = match self {
+            Request::Configure { settings } => settings.to_raw(),
+            _ => raw::Settings::default(),
+        };
+        raw::Request { kind, address: self.address(), size: self.size(), settings }
+    }
+}
