@@ -57,7 +57,7 @@
 //! would accept it; a cache gets no other request between its yes and the doing. What helps where one
 //! would refuse:
 //!
-//! - [`Refusal::NoRow`]: the lead flushes or syncs, and the standby takes the list. What became clean
+//! - [`Refusal::NoRow`]: the lead flushes, and the standby takes the list. What became clean
 //!   may be evicted.
 //! - [`Refusal::NotInCache`], [`Refusal::Held`], [`Refusal::NotHeld`], [`Refusal::Pinned`]: the entry is
 //!   protected, released or unpinned there.
