@@ -6,11 +6,11 @@
 use crate::arguments::Arguments;
 use crate::dump::Dump;
 use crate::layout::{Header, Row, Table};
-use crate::show::mode_name;
+use crate::show::{mode_name, yes_or_no};
 use crate::text::{counted, thousands, Json};
 use crate::{settings, Failure, Status};
 use speldervacht::Report;
-use std::collections::BTreeMap;
+use std::collections::{BTreeMap, BTreeSet};
 use std::io::{self, Read, Write};
 
 pub fn run(given: &Arguments, input: &mut dyn Read, out: &mut dyn Write) -> Result<Status, Failure> {
@@ -23,6 +23,9 @@ pub fn run(given: &Arguments, input: &mut dyn Read, out: &mut dyn Write) -> Resu
     }
     Ok(if difference.is_none() { Status::Good } else { Status::Bad })
 }
+
+/// The words of the header that have to agree.
+const AGREED: [Header; 2] = [Header::Threshold, Header::Count];
 
 /// One of the two dumps.
 struct Side<'a> {
@@ -70,23 +73,15 @@ struct Difference<'a> {
 
 impl<'a> Difference<'a> {
     fn of(lead: Side<'a>, standby: Side<'a>) -> Difference<'a> {
-        let addresses: std::collections::BTreeSet<u64> =
-            lead.entries.keys().chain(standby.entries.keys()).copied().collect();
+        let addresses: BTreeSet<u64> = lead.entries.keys().chain(standby.entries.keys()).copied().collect();
         let differs = |address: &u64| lead.dirty(*address) != standby.dirty(*address);
         let records = addresses.into_iter().filter(differs).collect();
         Difference { lead, standby, records }
     }
 
-    /// The numbers that have to agree, with their names: text, JSON, lead, standby.
-    fn numbers(&self) -> Vec<(&'static str, &'static str, u64, u64)> {
-        let (a, b) = (&self.lead, &self.standby);
-        let header = |word| (a.table.header(word), b.table.header(word));
-        let (threshold, count) = (header(Header::Threshold), header(Header::Count));
-        vec![
-            ("dirty-byte threshold", "threshold", threshold.0, threshold.1),
-            ("byte count", "count", count.0, count.1),
-            ("a list is due (1) or not (0)", "due", a.report.due as u64, b.report.due as u64),
-        ]
+    /// A word of the header, in the lead and in the standby.
+    fn both(&self, word: Header) -> (u64, u64) {
+        (self.lead.table.header(word), self.standby.table.header(word))
     }
 
     /// What may differ, and does: name, lead, standby.
@@ -118,7 +113,8 @@ impl<'a> Difference<'a> {
     }
 
     fn is_none(&self) -> bool {
-        self.records.is_empty() && self.numbers().iter().all(|(_, _, lead, standby)| lead == standby)
+        let same = |word| self.both(word).0 == self.both(word).1;
+        self.records.is_empty() && AGREED.into_iter().all(same)
     }
 
     fn tell(&self, out: &mut dyn Write) -> io::Result<()> {
@@ -134,8 +130,14 @@ impl<'a> Difference<'a> {
             let (lead, standby) = (self.lead.standing(*address), self.standby.standing(*address));
             writeln!(out, "  record {address}: lead {lead}; standby {standby}")?;
         }
-        for (name, _, lead, standby) in self.numbers().iter().filter(|(_, _, lead, standby)| lead != standby) {
-            writeln!(out, "  {name}: lead {}; standby {}", thousands(*lead), thousands(*standby))?;
+        for (word, (lead, standby)) in AGREED.map(|word| (word, self.both(word))) {
+            if lead != standby {
+                writeln!(out, "  {}: lead {}; standby {}", word.name(), thousands(lead), thousands(standby))?;
+            }
+        }
+        let (lead, standby) = (self.lead.report.due, self.standby.report.due);
+        if lead != standby {
+            writeln!(out, "  a list is due: lead {}; standby {}", yes_or_no(lead as u64), yes_or_no(standby as u64))?;
         }
         if let Some(modes) = self.modes() {
             writeln!(out, "note: {modes}")?;
@@ -160,13 +162,14 @@ impl<'a> Difference<'a> {
             ])
         };
         let mode = |side: &Side| Json::text(mode_name(side.table.header(Header::Mode)));
-        let mut fields = vec![
+        let numbers = |word| pair(Json::Number(self.both(word).0), Json::Number(self.both(word).1));
+        Json::Object(vec![
             ("same", Json::Flag(self.is_none())),
             ("modes", pair(mode(&self.lead), mode(&self.standby))),
             ("records", Json::list(&self.records, record)),
-        ];
-        let numbers = self.numbers().into_iter();
-        fields.extend(numbers.map(|(_, name, lead, standby)| (name, pair(Json::Number(lead), Json::Number(standby)))));
-        Json::Object(fields)
+            ("threshold", numbers(Header::Threshold)),
+            ("count", numbers(Header::Count)),
+            ("due", pair(Json::Flag(self.lead.report.due), Json::Flag(self.standby.report.due))),
+        ])
     }
 }

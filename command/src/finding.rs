@@ -1,8 +1,10 @@
 //! What is wrong with a table: a word, the rule that it breaks, and the words that may be wrong instead.
 
-use crate::layout::{name_of, Header};
-use crate::text::{thousands, Json};
+use crate::layout::{is_float, name_of, Header};
+use crate::text::{fraction, thousands, Json};
 use std::fmt;
+
+const ROWS: usize = Header::Rows.place();
 
 /// A word of a dump.
 #[derive(Clone, Debug)]
@@ -15,7 +17,7 @@ pub struct Word {
 
 impl Word {
     fn of(words: &[u64], place: usize) -> Word {
-        let rows = words.get(Header::Rows.place()).copied().unwrap_or(0);
+        let rows = words.get(ROWS).copied().unwrap_or(0);
         let rows = rows.min(speldervacht::MOST_ROWS as u64) as usize;
         Word { place, name: name_of(place, rows), value: words.get(place).copied() }
     }
@@ -34,6 +36,7 @@ impl fmt::Display for Word {
     fn fmt(&self, f: &mut fmt::Formatter) -> fmt::Result {
         write!(f, "word {} (byte 0x{:x}), {}: ", self.place, 8 * self.place, self.name)?;
         match self.value {
+            Some(value) if is_float(self.place) => write!(f, "0x{value:016x} ({})", fraction(f64::from_bits(value))),
             Some(value) => write!(f, "0x{value:016x} ({})", thousands(value)),
             None => write!(f, "not in the dump"),
         }
@@ -64,7 +67,7 @@ impl Finding {
 
     /// The places that are named.
     pub fn places(&self) -> Vec<usize> {
-        let count = self.sound_with.map(|_| Header::Rows.place());
+        let count = self.sound_with.map(|_| ROWS);
         let others = self.others.iter().map(|word| word.place);
         std::iter::once(self.word.place).chain(others).chain(count).collect()
     }
@@ -72,7 +75,7 @@ impl Finding {
     pub fn json(&self) -> Vec<(&'static str, Json)> {
         let mut fields = self.word.json();
         fields.push(("rule", Json::text(&self.rule)));
-        fields.push(("or", Json::list(&self.others, |word| Json::Object(word.json()))));
+        fields.push(("others", Json::list(&self.others, |word| Json::Object(word.json()))));
         fields.push(("sound_with_rows", Json::maybe(self.sound_with)));
         fields
     }
@@ -85,7 +88,10 @@ impl fmt::Display for Finding {
             write!(f, "\n  or {other}")?;
         }
         match self.sound_with {
-            Some(rows) => write!(f, "\n  or word 1 (byte 0x8), row count: with {rows} the table is sound"),
+            Some(rows) if self.word.place == ROWS => write!(f, "\n  with a row count of {rows} the table is sound"),
+            Some(rows) => {
+                write!(f, "\n  or word {ROWS} (byte 0x{:x}), row count: with {rows} the table is sound", 8 * ROWS)
+            }
             None => Ok(()),
         }
     }

@@ -118,6 +118,13 @@ impl Run {
     }
 }
 
+/// Whether the word at a place is a float.
+pub fn is_float(place: usize) -> bool {
+    use Setting::*;
+    let floats = [Clean, IncreaseLower, IncreaseMultiplier, FlashMultiple, FlashThreshold, DecreaseUpper, DecreaseLast];
+    floats.iter().any(|word| word.place() == place)
+}
+
 /// What the word at a place of a table with so many rows is.
 pub fn name_of(place: usize, rows: usize) -> String {
     if let Some(word) = Header::ALL.get(place) {

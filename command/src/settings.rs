@@ -1,7 +1,7 @@
 //! The settings of a table: in words, as a value of the library's crate, and changed by FIELD=VALUE.
 
 use crate::layout::{Setting, Table};
-use crate::text::{thousands, Json};
+use crate::text::{counted, fraction, thousands, Json};
 use speldervacht::{Decrease, Flash, Increase, Settings};
 
 /// The settings in the table's words. A kind that is none is read as the last one.
@@ -46,7 +46,7 @@ pub fn lines(s: &Settings) -> Vec<(&'static str, String)> {
     vec![
         ("evictions", on_or_off(s.evictions).to_string()),
         ("initial size", s.initial_size.map_or("not set".to_string(), bytes)),
-        ("minimum clean fraction", s.clean_fraction.to_string()),
+        ("minimum clean fraction", fraction(s.clean_fraction)),
         ("maximum size", bytes(s.maximum_size)),
         ("minimum size", bytes(s.minimum_size)),
         ("epoch length", format!("{} accesses", thousands(s.epoch_length))),
@@ -70,7 +70,7 @@ fn increase(rule: Increase) -> String {
     match rule {
         Increase::Off => "off".to_string(),
         Increase::Threshold { lower, multiplier } => {
-            format!("times {multiplier} if the hit rate is below {lower} and the cache is full")
+            format!("times {} if the hit rate is below {} and the cache is full", fraction(multiplier), fraction(lower))
         }
     }
 }
@@ -79,19 +79,24 @@ fn flash(rule: Flash) -> String {
     match rule {
         Flash::Off => "off".to_string(),
         Flash::On { multiple, threshold } => {
+            let (multiple, threshold) = (fraction(multiple), fraction(threshold));
             format!("{multiple} times the bytes that come, if they exceed {threshold} of the maximum")
         }
     }
 }
 
 fn decrease(rule: Decrease) -> String {
-    let age_out = |epochs, reserve| format!("entries idle for {epochs} epochs go, {reserve} is kept empty");
+    let age_out = |epochs, reserve| {
+        format!("entries idle for {} go, {} is kept empty", counted(epochs, "epoch"), fraction(reserve))
+    };
     match rule {
         Decrease::Off => "off".to_string(),
-        Decrease::Threshold { upper, multiplier } => format!("times {multiplier} if the hit rate is above {upper}"),
+        Decrease::Threshold { upper, multiplier } => {
+            format!("times {} if the hit rate is above {}", fraction(multiplier), fraction(upper))
+        }
         Decrease::AgeOut { epochs, reserve } => format!("age-out: {}", age_out(epochs, reserve)),
         Decrease::AgeOutWithThreshold { upper, epochs, reserve } => {
-            format!("age-out if the hit rate is above {upper}: {}", age_out(epochs, reserve))
+            format!("age-out if the hit rate is above {}: {}", fraction(upper), age_out(epochs, reserve))
         }
     }
 }

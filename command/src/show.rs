@@ -1,7 +1,7 @@
 //! show: the header of a dump, its settings in words, its figures, its entries and its recency list.
 
 use crate::arguments::Arguments;
-use crate::check::{frame, rows::WRITER};
+use crate::check::{frame, rows::WRITER, LAYOUT};
 use crate::dump::{self, Dump};
 use crate::layout::{Header, Row, Run, Table};
 use crate::text::{counted, thousands, Json};
@@ -60,7 +60,7 @@ fn mark_name(mark: u64) -> String {
     }
 }
 
-fn yes_or_no(word: u64) -> &'static str {
+pub fn yes_or_no(word: u64) -> &'static str {
     match word {
         0 => "no",
         _ => "yes",
@@ -79,7 +79,7 @@ fn header(table: &Table, words: usize, out: &mut dyn Write) -> io::Result<()> {
     let own = table.words().len();
     writeln!(out, "table")?;
     let lines = [
-        ("layout", (table.header(Header::Version) & 0xffff).to_string()),
+        ("layout", LAYOUT.to_string()),
         ("rows", number(Header::Rows)),
         ("words", format!("{}, and {} past its end", thousands(own as u64), thousands((words - own) as u64))),
         ("mode", mode_name(table.header(Header::Mode))),
@@ -145,7 +145,7 @@ fn list(table: &Table, out: &mut dyn Write) -> io::Result<()> {
 fn json(table: &Table, report: &Option<Report>, given: &Arguments) -> Json {
     let number = |word| Json::Number(table.header(word));
     let mut fields = vec![
-        ("layout", Json::Number(table.header(Header::Version) & 0xffff)),
+        ("layout", Json::Number(LAYOUT)),
         ("rows", number(Header::Rows)),
         ("mode", Json::text(mode_name(table.header(Header::Mode)))),
         ("threshold", number(Header::Threshold)),

@@ -23,6 +23,12 @@ pub fn counted(number: u64, unit: &str) -> String {
     }
 }
 
+/// A float in few digits: 0.3, 2, 1e-300.
+pub fn fraction(fraction: f64) -> String {
+    let text = format!("{fraction:?}");
+    text.strip_suffix(".0").unwrap_or(&text).to_string()
+}
+
 /// A value of JSON.
 pub enum Json {
     Nothing,

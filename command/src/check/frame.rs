@@ -14,7 +14,7 @@ pub const LAYOUT: u64 = VERSION & NUMBER;
 pub fn frame(words: &[u64]) -> Result<Table<'_>, Finding> {
     let wrong = |place, rule| Err(Finding::at(words, place, rule));
     match words.first() {
-        None => return wrong(0, "the dump is empty".to_string()),
+        None => return wrong(0, "a dump has words of 8 bytes, and this one has none".to_string()),
         Some(&version) if version != VERSION => return wrong(0, version_rule(version)),
         _ => {}
     }

@@ -2,7 +2,7 @@
 
 use crate::finding::Finding;
 use crate::layout::{Setting, Table};
-use crate::text::thousands;
+use crate::text::{fraction, thousands};
 
 /// What a word of the settings may be.
 enum Allowed {
@@ -37,7 +37,7 @@ impl Allowed {
 
     fn rule(&self, word: Setting, value: u64) -> String {
         let name = word.name();
-        let is = format!("it is {}", f64::from_bits(value));
+        let is = format!("it is {}", fraction(f64::from_bits(value)));
         match *self {
             Allowed::Any => format!("the {name} is any number"),
             Allowed::Whole(0, 1) => format!("the word is 0 or 1: {name}"),
@@ -143,7 +143,7 @@ fn rates(table: &Table) -> Option<Finding> {
     if !both_count || lower < upper {
         return None;
     }
-    let rule = format!("where both count, the lower rate is below the upper rate; they are {lower} and {upper}");
+    let rule = "the lower rate is below the upper rate, if the increase rule is on and the decrease rule has one";
     let finding = Finding::at(table.words(), Setting::IncreaseLower.place(), rule);
     Some(finding.or(table.words(), Setting::DecreaseUpper.place()).or(table.words(), Setting::DecreaseKind.place()))
 }
