@@ -1,5 +1,5 @@
-//! Every one-bit damage of small tables: check says damaged exactly where the library answers 1, and
-//! putting a word that it names back as it was mends the table.
+//! Every one-bit damage of small tables, and every word at the edge of each limit: check says damaged
+//! exactly where the library answers 1, and putting a word that it names back as it was mends the table.
 
 mod common;
 
@@ -55,21 +55,51 @@ fn one_bit_damages_are_found_and_named() {
     let mut tally = Tally::default();
     for mode in MODES {
         for settings in settings() {
-            // With a free row, and with none; then with words of the host past the end.
-            for rows in [6, 5] {
-                let table = table(mode, &settings, rows);
-                flip_each(&table, &mut tally);
-                flip_each(&without_initial_size(table.clone(), &settings), &mut tally);
-                let past: Vec<u64> = table.iter().copied().chain([0; 40]).chain([u64::MAX; 40]).collect();
-                flip_each(&past, &mut tally);
-            }
+            // With a free row, and with none.
+            let free = table(mode, &settings, 6);
+            flip_each(&free, &mut tally);
+            flip_each(&table(mode, &settings, 5), &mut tally);
+            flip_each(&without_initial_size(free, &settings), &mut tally);
         }
+        // With words of the host past the end.
+        let past = [table(mode, &settings()[0], 6), vec![0; 40], vec![u64::MAX; 40]].concat();
+        flip_each(&past, &mut tally);
     }
     let Tally { sound, named_first, named_besides } = tally;
     println!(
         "{sound} still sound; {named_first} damaged, the first word named mends it; {named_besides}, another does"
     );
     assert!(sound > 0 && named_first > 0 && named_besides > 0);
+}
+
+/// The limits of the rules, what lies beside them, and what is no number.
+fn edges() -> Vec<u64> {
+    let whole = [0, 1, 2, 3, 10, 100, 1_024, 4_096, 65_536, 1_000_000, 134_217_728, 1 << 30, 1 << 40, u64::MAX];
+    let floats = [0.0, -0.0, 0.1, 1.0, 2.0, 10.0, f64::INFINITY, f64::NAN].map(f64::to_bits);
+    whole.into_iter().chain(floats).flat_map(beside).collect()
+}
+
+fn beside(word: u64) -> [u64; 3] {
+    [word.wrapping_sub(1), word, word.wrapping_add(1)]
+}
+
+#[test]
+fn words_at_the_edges_of_the_limits() {
+    let mut tally = Tally::default();
+    for (settings, mode) in settings().iter().zip(MODES.into_iter().cycle()) {
+        let sound = table(mode, settings, 6);
+        // Each word also gets the value of each other one, so that pairs of words are equal.
+        let values: Vec<u64> = sound.iter().flat_map(|word| beside(*word)).chain(edges()).collect();
+        let mut words = sound.clone();
+        for place in 0..sound.len() {
+            for &value in &values {
+                words[place] = value;
+                judge(&sound, &words, place, &mut tally);
+            }
+            words[place] = sound[place];
+        }
+    }
+    assert!(tally.sound > 0 && tally.named_first > 0 && tally.named_besides > 0);
 }
 
 #[test]
