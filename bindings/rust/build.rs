@@ -1,4 +1,4 @@
-//! Links libspeldervacht.a from the folder that SPELDERVACHT_LIB_DIR names; or else from lib beside this
+//! Links libspeldervacht.a from the folder that `SPELDERVACHT_LIB_DIR` names; or else from lib beside this
 //! file, where an archive has it; or else from the repository's target/staticlib.
 
 use std::path::PathBuf;
