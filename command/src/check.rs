@@ -13,7 +13,7 @@ use crate::arguments::Arguments;
 use crate::dump::Dump;
 use crate::finding::Finding;
 use crate::layout::{table_words, Header};
-use crate::text::{counted, Json};
+use crate::text::{counted, thousands, Json};
 use crate::{show, Failure, Status};
 pub use frame::{frame, LAYOUT};
 use std::io::{Read, Write};
@@ -88,7 +88,7 @@ fn summary(words: &[u64], report: &speldervacht::Report) -> String {
         counted(words[Header::Rows.place()], "row"),
         match report.entries {
             1 => "1 entry".to_string(),
-            entries => format!("{} entries", crate::text::thousands(entries)),
+            entries => format!("{} entries", thousands(entries)),
         },
         counted(report.held, "byte"),
         counted(report.dirty, "byte"),

@@ -35,6 +35,9 @@ impl Dump {
 
     /// Writes the dump, with what lies past the table as it was.
     pub fn write(&self, file: &OsStr) -> Result<(), Failure> {
+        if file == STANDARD_INPUT {
+            return Err(Failure::Usage("a dump is written to a file".to_string()));
+        }
         let words = self.words.iter().flat_map(|word| word.to_le_bytes());
         let bytes: Vec<u8> = words.chain(self.rest.iter().copied()).collect();
         std::fs::write(file, bytes)

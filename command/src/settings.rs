@@ -104,55 +104,58 @@ fn decrease(rule: Decrease) -> String {
 // ---- for machines
 
 pub fn json(s: &Settings) -> Json {
-    let rule = |kind: &str, particulars: Vec<(&'static str, Json)>| {
-        let kind = [("kind", Json::text(kind))];
-        Json::Object(kind.into_iter().chain(particulars).collect())
-    };
-    let float = Json::Fraction;
     Json::Object(vec![
         ("evictions", Json::Flag(s.evictions)),
         ("initial_size", Json::maybe(s.initial_size)),
-        ("clean_fraction", float(s.clean_fraction)),
+        ("clean_fraction", Json::Fraction(s.clean_fraction)),
         ("maximum_size", Json::Number(s.maximum_size)),
         ("minimum_size", Json::Number(s.minimum_size)),
         ("epoch_length", Json::Number(s.epoch_length)),
-        (
-            "increase",
-            match s.increase {
-                Increase::Off => rule("off", vec![]),
-                Increase::Threshold { lower, multiplier } => {
-                    rule("threshold", vec![("lower", float(lower)), ("multiplier", float(multiplier))])
-                }
-            },
-        ),
+        ("increase", increase_json(s.increase)),
         ("increase_cap", Json::maybe(s.increase_cap)),
-        (
-            "flash",
-            match s.flash {
-                Flash::Off => rule("off", vec![]),
-                Flash::On { multiple, threshold } => {
-                    rule("on", vec![("multiple", float(multiple)), ("threshold", float(threshold))])
-                }
-            },
-        ),
-        (
-            "decrease",
-            match s.decrease {
-                Decrease::Off => rule("off", vec![]),
-                Decrease::Threshold { upper, multiplier } => {
-                    rule("threshold", vec![("upper", float(upper)), ("multiplier", float(multiplier))])
-                }
-                Decrease::AgeOut { epochs, reserve } => {
-                    rule("age-out", vec![("epochs", Json::Number(epochs)), ("reserve", float(reserve))])
-                }
-                Decrease::AgeOutWithThreshold { upper, epochs, reserve } => rule(
-                    "age-out-with-threshold",
-                    vec![("upper", float(upper)), ("epochs", Json::Number(epochs)), ("reserve", float(reserve))],
-                ),
-            },
-        ),
+        ("flash", flash_json(s.flash)),
+        ("decrease", decrease_json(s.decrease)),
         ("decrease_cap", Json::maybe(s.decrease_cap)),
     ])
+}
+
+/// A rule: its kind, and its particulars by name.
+fn rule_json<const N: usize>(kind: &str, particulars: [(&'static str, Json); N]) -> Json {
+    Json::Object([("kind", Json::text(kind))].into_iter().chain(particulars).collect())
+}
+
+fn increase_json(rule: Increase) -> Json {
+    match rule {
+        Increase::Off => rule_json("off", []),
+        Increase::Threshold { lower, multiplier } => {
+            rule_json("threshold", [("lower", Json::Fraction(lower)), ("multiplier", Json::Fraction(multiplier))])
+        }
+    }
+}
+
+fn flash_json(rule: Flash) -> Json {
+    match rule {
+        Flash::Off => rule_json("off", []),
+        Flash::On { multiple, threshold } => {
+            rule_json("on", [("multiple", Json::Fraction(multiple)), ("threshold", Json::Fraction(threshold))])
+        }
+    }
+}
+
+fn decrease_json(rule: Decrease) -> Json {
+    match rule {
+        Decrease::Off => rule_json("off", []),
+        Decrease::Threshold { upper, multiplier } => {
+            rule_json("threshold", [("upper", Json::Fraction(upper)), ("multiplier", Json::Fraction(multiplier))])
+        }
+        Decrease::AgeOut { epochs, reserve } => {
+            rule_json("age-out", [("epochs", Json::Number(epochs)), ("reserve", Json::Fraction(reserve))])
+        }
+        Decrease::AgeOutWithThreshold { upper, epochs, reserve } => rule_json(
+            "age-out-with-threshold",
+            [("upper", Json::Fraction(upper)), ("epochs", Json::Number(epochs)), ("reserve", Json::Fraction(reserve))],
+        ),
+    }
 }
 
 // ---- changed
