@@ -1,5 +1,5 @@
-//! Links libspeldervacht.a from the folder that `SPELDERVACHT_LIB_DIR` names, or else from the
-//! repository's target/staticlib.
+//! Links libspeldervacht.a from the folder that `SPELDERVACHT_LIB_DIR` names; or else from lib beside this
+//! file, where an archive has it; or else from the repository's target/staticlib.
 
 use std::path::PathBuf;
 
@@ -11,6 +11,7 @@ fn main() {
     let package = PathBuf::from(std::env::var_os("CARGO_MANIFEST_DIR").unwrap());
     let folder = match std::env::var_os("SPELDERVACHT_LIB_DIR") {
         Some(named) => package.join(named),
+        None if package.join("lib").join(LIBRARY).is_file() => package.join("lib"),
         None => package.join("../../target/staticlib"),
     };
     let folder = folder.canonicalize().unwrap_or(folder);
