@@ -23,7 +23,7 @@ use Rattle.layout.proofs.Ordered.{written-none, written-next}
 use Rattle.layout.specs.Picture.{cacheIn, restIn, written}
 use Rattle.judge.proofs.Verdicts.{sound, good}
 use Rattle.judge.specs.Verdict.{judgeWords}
-use Rattle.refusals.proofs.Telling.{verdict-some, verdict-none}
+use Rattle.verdicts.proofs.Telling.{verdict-some, verdict-none}
 use Rattle.refusals.specs.Unrefused.{Unrefused}
 use Rattle.room.proofs.Answered.{answered-not, answered-done}
 use Rattle.room.specs.Answered.{Answered}

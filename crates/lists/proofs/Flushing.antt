@@ -37,7 +37,7 @@ use Rattle.table.specs.Told.{Gives}
 use Rattle.lists.specs.Flushed.{allWritten}
 use Rattle.lists.specs.Taken.{taken}
 use Rattle.lists.proofs.Cleaning.{each-other, each-addresses, taken-rows, taken-last}
-use Rattle.refusals.proofs.Marked.{twice-again}
+use Rattle.taken_list.proofs.Marked.{twice-again}
 
 -- ---- the dirty addresses of a list
 

@@ -7,17 +7,17 @@ ghost use Rattle.rules.specs.Hosts.{asking};
 ghost use Rattle.rules.specs.Requests.{step};
 ghost use Rattle.layout.specs.Picture.{cacheIn, restIn};
 ghost use Rattle.layout.specs.Holds.{Holds, Good};
-ghost use Rattle.refusals.specs.Listed.{Named};
+ghost use Rattle.taken_list.specs.Listed.{Named};
 ghost use Rattle.room.specs.Answered.{Answered};
 ghost use Rattle.table.specs.Asked.{GoodRows};
 ghost use Rattle.lists.specs.Taken.{taken};
-use refusals::list::MOST_ROWS;
-use refusals::tests::take_noting;
 use rules::answer::Answer;
 use rules::answer::Verdict;
 use table::changes::clean_row;
 use table::header::row_count;
 use table::header::set_count;
+use table_tests::take_noting;
+use taken_list::MOST_ROWS;
 
 // The entries at the list's addresses are clean.
 fn clean_each(table: &mut [u64], rows: usize, list: &[u64], named: &[u16; MOST_ROWS])

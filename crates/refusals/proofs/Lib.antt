@@ -1,5 +1,2 @@
-pub mod Telling
-pub mod Marked
-pub mod Evictable
 pub mod Unrefused
 pub mod Here

@@ -15,9 +15,8 @@ use Rattle.rules.specs.Hosts.{asking}
 use Rattle.rules.specs.Refusals.{tests, refusalOf, tooFewWords, badAddress, badSize, entryTest, noRow}
 use Rattle.rules.specs.Rows.{get, isHere}
 use Rattle.rules.specs.declared.entry.Entry.{Entry}
-use Rattle.refusals.specs.Listed.{badList}
 use Rattle.rules.specs.declared.request.Access.{Access}
-use Rattle.rules.specs.declared.request.Request.the-variants.{Insert, Protect, Release, ReleaseChanged, Pin, Unpin, Resize, Discard, Flush, Sync, Take, Configure}
+use Rattle.rules.specs.declared.request.Request.the-variants.{Insert, Protect, Release, ReleaseChanged, Pin, Unpin, Resize, Discard, Flush, Sync, Configure}
 
 pub record Insertable (c : Cache) (lent a s : ℕ) : Type 0 where
   pub words : tooFewWords c lent ≡ false
@@ -100,7 +99,3 @@ module _ (c : Cache) where
   pub configurable : (lent : ℕ) (s : Settings) → refusalOf c (asking (Configure s) [] lent) ≡ none → (tooFewWords c lent ≡ false) × (firstBad s false ≡ 0)
   unfolding refusalOf tests
   configurable lent s h = let f = failed (tests c lent [] (Configure s)) h in (f .0, eqb-true _ 0 (not-false _ (f .1 .0)))
-
-  pub takeable : (list : List ℕ) → refusalOf c (asking Take list 0) ≡ none → badList (c .rows) list ≡ false
-  unfolding refusalOf tests
-  takeable list h = failed (tests c 0 list Take) h .1 .1 .0

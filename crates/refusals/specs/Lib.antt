@@ -1,5 +1,2 @@
 pub mod Named
-pub mod Seen
-pub mod Tells
-pub mod Listed
 pub mod Unrefused

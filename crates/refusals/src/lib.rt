@@ -10,11 +10,7 @@ use rules::answer::Verdict;
 use rules::request::Request;
 use table::lookup::Found;
 
-mod full;
-pub mod list;
 pub mod named;
-mod seen;
-pub mod tests;
 
 // The first of the request's tests that passes. The address that it names was looked for before.
 pub fn refusal_of(
@@ -30,24 +26,24 @@ pub fn refusal_of(
 {
     match request {
         Request::Insert { address, size } => {
-            tests::insert(table, rows, found, lent, address, size)
+            entry_tests::insert(table, rows, found, lent, address, size)
         }
         Request::Protect {
             access,
             address,
             size,
-        } => tests::protect(table, rows, found, lent, access, address, size),
-        Request::Release { address } => tests::release(table, rows, found, lent, address),
+        } => entry_tests::protect(table, rows, found, lent, access, address, size),
+        Request::Release { address } => entry_tests::release(table, rows, found, lent, address),
         Request::ReleaseChanged { address, size } => {
-            tests::release_changed(table, rows, found, lent, address, size)
+            entry_tests::release_changed(table, rows, found, lent, address, size)
         }
-        Request::Pin { address } => tests::pin(table, rows, found, address),
-        Request::Unpin { address } => tests::unpin(table, rows, found, address),
-        Request::Resize { address, size } => tests::resize(table, rows, found, address, size),
-        Request::Discard { address } => tests::discard(table, rows, found, address),
-        Request::Flush => tests::flush(table, rows, lent),
-        Request::Sync => tests::sync(table, rows, lent),
-        Request::Take => tests::take(table, rows, list),
-        Request::Configure(s) => tests::configure(table, rows, lent, s),
+        Request::Pin { address } => entry_tests::pin(table, rows, found, address),
+        Request::Unpin { address } => entry_tests::unpin(table, rows, found, address),
+        Request::Resize { address, size } => entry_tests::resize(table, rows, found, address, size),
+        Request::Discard { address } => entry_tests::discard(table, rows, found, address),
+        Request::Flush => table_tests::flush(table, rows, lent),
+        Request::Sync => table_tests::sync(table, rows, lent),
+        Request::Take => table_tests::take(table, rows, list),
+        Request::Configure(s) => table_tests::configure(table, rows, lent, s),
     }
 }

@@ -1,4 +1,3 @@
 pub mod Opening
 pub mod Reporting
-pub mod Unknown
 pub mod Told

@@ -7,7 +7,7 @@ use lib.ListN.{replicate}
 use Rattle.judge.specs.Verdict.{judgeWords}
 use Rattle.cache.specs.Tables.{reportWords}
 use Rattle.speldervacht.specs.Numbers.{reportNumbers}
-use Rattle.speldervacht.specs.declared.raw.RawFigures.{RawFigures}
+use Rattle.numbers.specs.declared.raw.RawFigures.{RawFigures}
 
 -- 1, and all else 0
 pub refused-report : (table : List ℕ) → judgeWords table ≡ false

@@ -7,13 +7,14 @@ use Rattle.rules.specs.Answers.{verdictIn}
 use Rattle.rules.specs.declared.answer.Answer.{Answer}
 use Rattle.rules.specs.declared.answer.Answer.the-variants.{Accepted, Refused}
 use Rattle.cache.proofs.AskedRuns.{ask-step}
-use Rattle.speldervacht.specs.Meanings.{askedOfRaw}
-use Rattle.speldervacht.specs.Numbers.{answerNumbers, stepAsked, leftNumbers, stepNumbers, verdictNumbers, askAsked, askNumbers}
-use Rattle.speldervacht.specs.declared.raw.RawAnswer.{RawAnswer}
-use Rattle.speldervacht.specs.declared.raw.RawRequest.{RawRequest}
-use Rattle.speldervacht.specs.declared.raw.RawVerdict.{RawVerdict}
-use Rattle.speldervacht.specs.declared.request.Asked.{Asked}
-use Rattle.speldervacht.specs.declared.request.Asked.the-variants.{Known, Unknown}
+use Rattle.numbers.specs.Meanings.{askedOfRaw}
+use Rattle.numbers.specs.Answers.{answerNumbers, verdictNumbers}
+use Rattle.speldervacht.specs.Numbers.{stepAsked, leftNumbers, stepNumbers, askAsked, askNumbers}
+use Rattle.numbers.specs.declared.raw.RawAnswer.{RawAnswer}
+use Rattle.numbers.specs.declared.raw.RawRequest.{RawRequest}
+use Rattle.numbers.specs.declared.raw.RawVerdict.{RawVerdict}
+use Rattle.numbers.specs.declared.request.Asked.{Asked}
+use Rattle.numbers.specs.declared.request.Asked.the-variants.{Known, Unknown}
 
 -- the number and the field of an answer
 abbrev pub toldBy : RawAnswer → RawVerdict

@@ -5,8 +5,6 @@ use mathlib.Core.Option.{Option, Option·getD}
 use lib.Dec.{leb}
 use lib.ListN.{length}
 use Rattle.settings.specs.declared.Settings.{Settings}
-use Rattle.settings_words.specs.Words.{flagWord}
-use Rattle.rules.specs.Answers.{answerNumber, answerField, answerOrders, verdictNumber, verdictField}
 use Rattle.rules.specs.Cache.{fresh}
 use Rattle.rules.specs.Entries.{if_then_else_}
 use Rattle.rules.specs.Opening.{refusalOfOpening}
@@ -22,19 +20,15 @@ use Rattle.layout.specs.Layout.{layoutWords}
 use Rattle.judge.specs.Verdict.{judgeWords}
 use Rattle.cache.specs.Asked.{askWords}
 use Rattle.cache.specs.Tables.{Left, left, stepWords, Opened, openedWith, reportWords}
-use Rattle.cache.specs.declared.reporting.Reported.{Reported}
-use Rattle.speldervacht.specs.Meanings.{modeOfRaw, settingsOfRaw, askedOfRaw}
-use Rattle.speldervacht.specs.declared.raw.RawAnswer.{RawAnswer}
-use Rattle.speldervacht.specs.declared.raw.RawFigures.{RawFigures}
-use Rattle.speldervacht.specs.declared.raw.RawRequest.{RawRequest}
-use Rattle.speldervacht.specs.declared.raw.RawSettings.{RawSettings}
-use Rattle.speldervacht.specs.declared.raw.RawVerdict.{RawVerdict}
-use Rattle.speldervacht.specs.declared.request.Asked.{Asked}
-use Rattle.speldervacht.specs.declared.request.Asked.the-variants.{Known, Unknown}
-
--- An answer in document 01's numbering.
-abbrev pub answerNumbers : Answer → RawAnswer
-answerNumbers a = record { number = answerNumber a; field = answerField a; orders = answerOrders a }
+use Rattle.numbers.specs.Answers.{answerNumbers, verdictNumbers, figureNumbers}
+use Rattle.numbers.specs.Meanings.{modeOfRaw, settingsOfRaw, askedOfRaw}
+use Rattle.numbers.specs.declared.raw.RawAnswer.{RawAnswer}
+use Rattle.numbers.specs.declared.raw.RawFigures.{RawFigures}
+use Rattle.numbers.specs.declared.raw.RawRequest.{RawRequest}
+use Rattle.numbers.specs.declared.raw.RawSettings.{RawSettings}
+use Rattle.numbers.specs.declared.raw.RawVerdict.{RawVerdict}
+use Rattle.numbers.specs.declared.request.Asked.{Asked}
+use Rattle.numbers.specs.declared.request.Asked.the-variants.{Known, Unknown}
 
 -- ---- opening
 
@@ -86,10 +80,6 @@ stepNumbers table orders list w = leftNumbers (stepAsked table orders list (aske
 
 -- ---- asking
 
--- A verdict in document 01's numbering.
-abbrev pub verdictNumbers : Verdict → RawVerdict
-verdictNumbers v = record { number = verdictNumber v; field = verdictField v }
-
 -- By `askWords` of crate cache; a request of no known kind as a step answers it.
 abbrev pub askAsked : List ℕ → ℕ → List ℕ → Asked → Verdict
 askAsked table lent list Unknown = verdict.Refused (unknownRefusal table)
@@ -100,19 +90,6 @@ askNumbers table lent list w = verdictNumbers (askAsked table lent list (askedOf
 
 -- ---- the report
 
--- 0 and the figures, or 1 and zeros. Due is 1 if a list is due, else 0.
-abbrev pub figureNumbers : Reported → RawFigures
-figureNumbers x = record {
-  number = answerNumber (x .answer);
-  held = x .report .held;
-  dirty = x .report .dirty;
-  entries = x .report .entries;
-  maximum = x .report .maximum;
-  clean = x .report .clean;
-  count = x .report .count;
-  due = flagWord (x .report .due);
-  totals = x .report .totals;
-}
-
+-- 0 and the figures, or 1 and zeros.
 unfoldable pub reportNumbers : List ℕ → RawFigures
-reportNumbers table = figureNumbers (reportWords table)
+reportNumbers table = let x = reportWords table in figureNumbers (x .answer) (x .report)

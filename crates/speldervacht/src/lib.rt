@@ -2,42 +2,27 @@
 //
 // The host lends the table, the words for orders and the list, each as a pointer and a length. All
 // else is numbers and structs of numbers. Each function answers whatever the numbers and words are.
-//
-//     raw        the structs
-//     setting    the settings that numbers stand for
-//     request    the request that numbers stand for
-//     answer     an answer as numbers
-//     verdict    a verdict as numbers
-//     figures    a report as numbers
 ghost use mathlib.Core.Path.{_≡_};
 ghost use Rattle.cache.specs.Tables.{opened};
-ghost use Rattle.speldervacht.specs.Meanings.{modeOfRaw};
+ghost use Rattle.numbers.specs.Meanings.{modeOfRaw};
 ghost use Rattle.speldervacht.specs.Numbers.{openIn, afterOpen, openNumbers, unknownRefusal, afterStep, stepNumbers, askNumbers, reportNumbers};
-
-mod answer;
-mod figures;
-mod raw;
-mod request;
-mod setting;
-mod verdict;
-
-use answer::answer_of;
-use figures::figures_of;
 use judge::judge;
-use raw::RawAnswer;
-use raw::RawFigures;
-use raw::RawRequest;
-use raw::RawSettings;
-use raw::RawVerdict;
-use request::Asked;
-use request::request_of;
+use numbers::answer::answer_of;
+use numbers::figures::figures_of;
+use numbers::raw::RawAnswer;
+use numbers::raw::RawFigures;
+use numbers::raw::RawRequest;
+use numbers::raw::RawSettings;
+use numbers::raw::RawVerdict;
+use numbers::request::Asked;
+use numbers::request::request_of;
+use numbers::setting::settings_of;
+use numbers::verdict::verdict_of;
 use rules::answer::Answer;
 use rules::answer::Refusal;
 use rules::answer::Verdict;
 use rules::request::Mode;
-use setting::settings_of;
 use settings::Settings;
-use verdict::verdict_of;
 
 // Opens by the mode's number: 0 alone, 1 lead, 2 standby. An unknown mode is refused as a threshold
 // of 0 is: 5, unless the rows or the table are at fault.
@@ -113,5 +98,8 @@ pub extern "C" fn speldervacht_ask(
 pub extern "C" fn speldervacht_report(table: &[u64]) -> RawFigures
     ensures { λ r. ⌜ r ≡ reportNumbers (now (table .entry)) ⌝ }
 {
-    figures_of(cache::report(table))
+    let x = cache::report(table);
+    let answer = x.answer;
+    let report = x.report;
+    figures_of(answer, report)
 }

@@ -2,7 +2,7 @@
 use mathlib.Core.Path.{ap, _∙_}
 use Rattle.layout.specs.Picture.{cacheIn}
 use Rattle.refusals.specs.Named.{foundFor}
-use Rattle.refusals.proofs.Telling.{matched}
+use Rattle.verdicts.proofs.Telling.{matched}
 use borrow.Author.Needs.{needs}
 use Rattle.refusals.proofs.refusal_of.Statement.{statement}
 use Rattle.refusals.proofs.refusal_of.Tie as tie

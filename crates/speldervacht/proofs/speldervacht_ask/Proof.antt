@@ -1,7 +1,8 @@
 -- A known request is the cache's ask; an unknown one is refused as a step refuses it.
 use mathlib.Core.Path.{ap}
 use borrow.Author.Needs.{needs}
-use Rattle.speldervacht.specs.Numbers.{verdictNumbers, askNumbers}
+use Rattle.numbers.specs.Answers.{verdictNumbers}
+use Rattle.speldervacht.specs.Numbers.{askNumbers}
 use Rattle.speldervacht.proofs.speldervacht_ask.Statement.{statement}
 use Rattle.speldervacht.proofs.speldervacht_ask.Tie as tie
 

@@ -12,7 +12,7 @@ figures-of-requires c κs = search needs
 
 returns : tie.Need-returns
 unfolding reportNumbers
-returns c = rw (c .figures-of .ensures, c .before .report .ensures)
+returns c = rw (c .figures-of .ensures, c .before .before .report .ensures)
 
 pub speldervacht-report-spec : {M : Type 1} → statement M
 speldervacht-report-spec = tie.close (tie.spec report-requires figures-of-requires returns)

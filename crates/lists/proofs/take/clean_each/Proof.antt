@@ -6,7 +6,7 @@ use lib.ListN.{length, take}
 use borrow.Author.Needs.{needs}
 use Rattle.layout.specs.Picture.{cacheIn, restIn}
 use Rattle.lists.proofs.Cleaning.{Cleaning, cleaning-start, cleaning-on, cleaning-end, taken-rows, taken-row}
-use Rattle.refusals.proofs.Marked.{named-row, named-low}
+use Rattle.taken_list.proofs.Marked.{named-row, named-low}
 use Rattle.lists.proofs.take.clean_each.Statement.{statement}
 use Rattle.lists.proofs.take.clean_each.Tie as tie
 

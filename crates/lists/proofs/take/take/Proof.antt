@@ -10,7 +10,7 @@ use Rattle.rules.specs.Requests.{effect}
 use Rattle.rules.specs.declared.request.Request.the-variants.{Take}
 use Rattle.layout.proofs.Held.{holds-good, onward}
 use Rattle.layout.specs.Picture.{cacheIn}
-use Rattle.refusals.proofs.Telling.{matched, verdict-some, verdict-none}
+use Rattle.verdicts.proofs.Telling.{matched, verdict-some, verdict-none}
 use Rattle.room.proofs.Answered.{answered-not, answered-done}
 use Rattle.room.proofs.Orders.{did-holds}
 use borrow.Author.Needs.{needs}

@@ -1,0 +1,2 @@
+pub mod Evictable
+pub mod Joined

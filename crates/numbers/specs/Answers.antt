@@ -1,0 +1,31 @@
+-- What a host is answered, as numbers.
+use Rattle.settings_words.specs.Words.{flagWord}
+use Rattle.rules.specs.Answers.{answerNumber, answerField, answerOrders, verdictNumber, verdictField}
+use Rattle.rules.specs.declared.answer.Answer.{Answer}
+use Rattle.rules.specs.declared.answer.Verdict.{Verdict}
+use Rattle.rules.specs.declared.report.Report.{Report}
+use Rattle.numbers.specs.declared.raw.RawAnswer.{RawAnswer}
+use Rattle.numbers.specs.declared.raw.RawFigures.{RawFigures}
+use Rattle.numbers.specs.declared.raw.RawVerdict.{RawVerdict}
+
+-- An answer in document 01's numbering.
+abbrev pub answerNumbers : Answer → RawAnswer
+answerNumbers a = record { number = answerNumber a; field = answerField a; orders = answerOrders a }
+
+-- A verdict in document 01's numbering.
+abbrev pub verdictNumbers : Verdict → RawVerdict
+verdictNumbers v = record { number = verdictNumber v; field = verdictField v }
+
+-- A report's answer, 0 or 1, and its figures. Due is 1 if a list is due, else 0.
+abbrev pub figureNumbers : Answer → Report → RawFigures
+figureNumbers a report = record {
+  number = answerNumber a;
+  held = report .held;
+  dirty = report .dirty;
+  entries = report .entries;
+  maximum = report .maximum;
+  clean = report .clean;
+  count = report .count;
+  due = flagWord (report .due);
+  totals = report .totals;
+}
