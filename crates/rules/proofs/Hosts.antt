@@ -26,7 +26,7 @@ use Rattle.rules.specs.Requests.{effect, judged, step}
 use Rattle.rules.specs.Rows.{get, passes, dirtyAt}
 use Rattle.rules.proofs.Allowed.{step-allowed, fresh-allowed}
 use Rattle.rules.proofs.Follow.{same-ledger, dirty-in, shared-follows, local-keeps, takes-list}
-use Rattle.rules.proofs.Kept.{step-kept}
+use Rattle.rules.proofs.Kept.{step-kept, mode-kept}
 use Rattle.rules.proofs.Lists.{elem-first, elem-rest}
 use Rattle.rules.proofs.Sent.{sends}
 use Rattle.rules.proofs.Sound.{none-free}
@@ -45,8 +45,13 @@ record Host (m : Mode) (t : ℕ) (c : Cache) (l : Ledger) : Type 0 where
 -- a host after a request
 goes : {m : Mode} {t : ℕ} {c : Cache} {l n : Ledger} (call : Call) → Host m t c l → ledgerOf (step c call .cache) ≡ n → Host m t (step c call .cache) n
 goes {c = c} call h e =
-    let k = step-kept c call (h .allowed .sound) in
-    record { says = e; mode = k .mode ∙ h .mode; threshold = k .threshold ∙ h .threshold; allowed = step-allowed c call (h .allowed) }
+    let k = h .allowed .sound in
+    record {
+      says = e;
+      mode = mode-kept c call k ∙ h .mode;
+      threshold = step-kept c call k .threshold ∙ h .threshold;
+      allowed = step-allowed c call (h .allowed);
+    }
 
 module _ {m : Mode} (host : isAlone m ≡ false) {t : ℕ} {c : Cache} {l : Ledger} (h : Host m t c l) (call : Call) where
   here : isAlone (c .mode) ≡ false
