@@ -3,14 +3,16 @@ use Prim.Native.Nat.{ℕ}
 use mathlib.Core.Bool.{true, false}
 use mathlib.Core.List.{List}
 use mathlib.Core.Option.{Option, none, some}
-use mathlib.Core.Path.{_≡_, refl, sym, ap, _∙_}
+use mathlib.Core.Path.{_≡_, refl, sym, ap, subst, _∙_}
 use lib.ListN.{length}
+use Rattle.rules.proofs.Sides.{at-other}
 use Rattle.rules.proofs.Tests.{split}
 use Rattle.rules.specs.Cache.{Cache, Work}
 use Rattle.rules.specs.Hosts.{asking, isAccepted}
 use Rattle.rules.specs.Ledger.{Ledger}
 use Rattle.rules.specs.Refusals.{refusalOf}
 use Rattle.rules.specs.Requests.{effect, judged, step}
+use Rattle.rules.specs.Sides.{Side, other, Pair, at, put}
 use Rattle.rules.specs.declared.answer.Answer.the-variants.{Accepted, Refused}
 use Rattle.rules.specs.declared.answer.Answer.{Answer}
 use Rattle.rules.specs.declared.answer.Refusal.{Refusal}
@@ -19,7 +21,7 @@ use Rattle.rules.specs.Answers.{verdictOf, verdictIn}
 use Rattle.rules.specs.declared.answer.Verdict.the-variants as verdict
 use Rattle.layout.specs.Picture.{cacheIn}
 use Rattle.judge.specs.Verdict.{judgeWords}
-use Rattle.cache.specs.Asked.{askWords, Outstanding, pendingOf, LeadFree, StandbyFree, AskedRun}
+use Rattle.cache.specs.Asked.{askWords, Outstanding, pendingOf, Free, AskedRun}
 use Rattle.cache.specs.Hosts.{accepts, TableRun, TablesAgree}
 use Rattle.cache.specs.Tables.{stepWords}
 use Rattle.cache.proofs.Hosts.{tables-agree, takes-list}
@@ -55,60 +57,45 @@ asked-accepts ws os list r e = accepted-of (stepWords ws os list r .answer) (sym
 -- ---- runs
 
 -- the yes of the one that does the change next still stands
-abbrev Stands : List ℕ → List ℕ → Outstanding → Type 0
-Stands a b Outstanding.nothing = Unit
-Stands a b (Outstanding.standbyNext {r} h n list) = askWords b n list r ≡ verdict.Accepted
-Stands a b (Outstanding.leadNext {r} h n list) = askWords a n list r ≡ verdict.Accepted
-Stands a b (Outstanding.taking list) = Unit
+abbrev Stands : Pair (List ℕ) → Outstanding → Type 0
+Stands h Outstanding.nothing = Unit
+Stands h (Outstanding.doing x {r} k n list) = askWords (at (other x) h) n list r ≡ verdict.Accepted
+Stands h (Outstanding.taking x list) = Unit
 
-lead-moved : (a x b : List ℕ) (p : Outstanding) → LeadFree p → Stands a b p → Stands x b p
-lead-moved a x b Outstanding.nothing f s = tt
-lead-moved a x b (Outstanding.standbyNext h n list) f s = s
-lead-moved a x b (Outstanding.leadNext h n list) f s = absurd f
-lead-moved a x b (Outstanding.taking list) f s = tt
+-- and does so after a request to the other
+moved : (h : Pair (List ℕ)) (y : Side) (ws : List ℕ) (p : Outstanding) → Free y p → Stands h p → Stands (put y ws h) p
+moved h y ws Outstanding.nothing f s = tt
+moved h y ws (Outstanding.doing x {r} k n list) f s =
+    rw f (subst (λ (w : List ℕ). askWords w n list r ≡ verdict.Accepted) (sym (at-other x ws h)) s)
+moved h y ws (Outstanding.taking x list) f s = tt
 
-standby-moved : (a x b : List ℕ) (p : Outstanding) → StandbyFree p → Stands a b p → Stands a x p
-standby-moved a x b Outstanding.nothing f s = tt
-standby-moved a x b (Outstanding.standbyNext h n list) f s = absurd f
-standby-moved a x b (Outstanding.leadNext h n list) f s = s
-standby-moved a x b (Outstanding.taking list) f s = tt
+record Keeps (t : ℕ) (h : Pair (List ℕ)) (l : Ledger) (p : Outstanding) : Type 0 where
+  run : TableRun t h l (pendingOf p)
+  stands : Stands h p
 
-record Keeps (t : ℕ) (a b : List ℕ) (l : Ledger) (p : Outstanding) : Type 0 where
-  run : TableRun t a b l (pendingOf p)
-  stands : Stands a b p
-
-keeps : {t : ℕ} {a b : List ℕ} {l : Ledger} {p : Outstanding} → AskedRun t a b l p → Keeps t a b l p
+keeps : {t : ℕ} {h : Pair (List ℕ)} {l : Ledger} {p : Outstanding} → AskedRun t h l p → Keeps t h l p
 keeps (AskedRun.opened a b n m s u i j h k) = record { run = TableRun.opened a b n m s u i j h k; stands = tt }
-keeps {p = p} (AskedRun.lead-local {a} {b} os list r h f w run) =
-    let k = keeps run in
-    record { run = TableRun.lead-local os list r h f (k .run); stands = lead-moved a (stepWords a os list r .table) b p w (k .stands) }
-keeps {p = p} (AskedRun.standby-local {a} {b} os list r h f w run) =
-    let k = keeps run in
-    record { run = TableRun.standby-local os list r h f (k .run); stands = standby-moved a (stepWords b os list r .table) b p w (k .stands) }
-keeps {p = p} (AskedRun.lead-refuses {a} {b} os list r e w run) =
-    let k = keeps run in
-    record { run = TableRun.lead-refuses os list r e (k .run); stands = lead-moved a (stepWords a os list r .table) b p w (k .stands) }
-keeps {p = p} (AskedRun.standby-refuses {a} {b} os list r e w run) =
-    let k = keeps run in
-    record { run = TableRun.standby-refuses os list r e (k .run); stands = standby-moved a (stepWords b os list r .table) b p w (k .stands) }
-keeps (AskedRun.lead-first {a} {r = r} h os list lent theirs e y run) =
-    record { run = rw (← asked-accepts a os list r e) (TableRun.lead-first h os list (keeps run .run)); stands = y }
-keeps (AskedRun.standby-second {b = b} {r = r} h os list run) =
-    let k = keeps run in
-    record { run = TableRun.standby-second h os list true (asked-accepts b os list r (k .stands)) (k .run); stands = tt }
-keeps (AskedRun.standby-first {b = b} {r = r} h os list lent theirs e y run) =
-    record { run = rw (← asked-accepts b os list r e) (TableRun.standby-first h os list (keeps run .run)); stands = y }
-keeps (AskedRun.lead-second {a} {r = r} h os list run) =
-    let k = keeps run in
-    record { run = TableRun.lead-second h os list true (asked-accepts a os list r (k .stands)) (k .run); stands = tt }
-keeps (AskedRun.lead-sends h os list e run) = record { run = TableRun.lead-sends h os list e (keeps run .run); stands = tt }
-keeps (AskedRun.standby-takes os list run) =
-    let k = keeps run in
-    record { run = TableRun.standby-takes os list (takes-list (k .run) os) (k .run); stands = tt }
+keeps {p = p} (AskedRun.local {h} x os list r k f w run) =
+    let b = keeps run in
+    record { run = TableRun.local x os list r k f (b .run); stands = moved h x (stepWords (at x h) os list r .table) p w (b .stands) }
+keeps {p = p} (AskedRun.refuses {h} x os list r e w run) =
+    let b = keeps run in
+    record { run = TableRun.refuses x os list r e (b .run); stands = moved h x (stepWords (at x h) os list r .table) p w (b .stands) }
+keeps (AskedRun.begins {h} {r = r} x k os list lent theirs e y run) = record {
+  run = rw (← asked-accepts (at x h) os list r e) (TableRun.begins x k os list (keeps run .run));
+  stands = subst (λ (w : List ℕ). askWords w lent theirs r ≡ verdict.Accepted) (sym (at-other x _ h)) y;
+}
+keeps (AskedRun.ends {h} {r = r} x k os list run) =
+    let b = keeps run in
+    record { run = TableRun.ends x k os list true (asked-accepts (at (other x) h) os list r (b .stands)) (b .run); stands = tt }
+keeps (AskedRun.sends x k os list e run) = record { run = TableRun.sends x k os list e (keeps run .run); stands = tt }
+keeps (AskedRun.takes x os list run) =
+    let b = keeps run in
+    record { run = TableRun.takes x os list (takes-list (b .run) os) (b .run); stands = tt }
 
-pub asked-run : {t : ℕ} {a b : List ℕ} {l : Ledger} {p : Outstanding} → AskedRun t a b l p → TableRun t a b l (pendingOf p)
+pub asked-run : {t : ℕ} {h : Pair (List ℕ)} {l : Ledger} {p : Outstanding} → AskedRun t h l p → TableRun t h l (pendingOf p)
 asked-run run = keeps run .run
 
 -- demand 3 of such runs
-pub asked-agree : {t : ℕ} {a b : List ℕ} {l : Ledger} → AskedRun t a b l Outstanding.nothing → TablesAgree a b l
+pub asked-agree : {t : ℕ} {h : Pair (List ℕ)} {l : Ledger} → AskedRun t h l Outstanding.nothing → TablesAgree h l
 asked-agree run = tables-agree (asked-run run)

@@ -95,7 +95,7 @@ unfolding reportOf
 reports-balanced ws n m t s f h calls =
     let p = tablePast (openWords ws n m t s .table) calls in
     let k = same-past (openWords ws n m t s .table) (fresh n m t s) calls (pictures-fresh ws n m t s f h) in
-    let x = reported (p .table) (k .pictures .passes) in
+    let x = reported (record { passes = k .pictures .passes; cache = refl }) in
     record {
       answer = ap (λ r. r .answer) x;
       held = subst (λ (b : ℕ). Balances b p) (sym (ap (λ r. r .report .held) x)) (tables-balanced ws n m t s f h calls);

@@ -9,6 +9,7 @@ use lib.ListN.{length, drop}
 use Rattle.settings.specs.declared.Settings.{Settings}
 use Rattle.settings_words.specs.FloatsFit.{FloatsFit}
 use Rattle.rules.proofs.Allowed.{step-allowed, fresh-allowed}
+use Rattle.rules.proofs.Sides.{each-put}
 use Rattle.rules.proofs.Steps.{failed, stepped}
 use Rattle.rules.proofs.Tests.{or-true}
 use Rattle.rules.specs.Allowed.{Allowed}
@@ -17,10 +18,13 @@ use Rattle.rules.specs.Hosts.{accepted, asking}
 use Rattle.rules.specs.Opening.{refusalOfOpening}
 use Rattle.rules.specs.Limits.{mostRows}
 use Rattle.rules.specs.Reports.{reportOf}
+use Rattle.rules.specs.Refusals.{Call}
 use Rattle.rules.specs.Requests.{Outcome, step}
+use Rattle.rules.specs.Sides.{Side, one, two, Pair, at, put}
 use Rattle.rules.specs.declared.answer.Answer.the-variants.{Accepted, Refused}
 use Rattle.rules.specs.declared.answer.Answer.{Answer}
 use Rattle.rules.specs.declared.answer.Refusal.{Refusal}
+use Rattle.rules.specs.declared.request.Mode.the-variants.{Lead, Standby}
 use Rattle.rules.specs.declared.request.Mode.{Mode}
 use Rattle.rules.specs.declared.request.Request.{Request}
 use Rattle.layout.proofs.ReadBack.{cache-back}
@@ -81,6 +85,20 @@ module _ (ws os list : List ℕ) (r : Request) (v : judgeWords ws ≡ true) wher
       (λ x i. record { passes = v; cache = refl })
       (sym accepts-as ∙ h))
 
+-- on a table that pictures a cache, as the rules name the request
+module _ {ws : List ℕ} {c : Cache} (k : Pictures ws c) (os list : List ℕ) (r : Request) {call : Call} (e : asking r list (length os) ≡ call) where
+  pub same-step : step (cacheIn ws) (asking r list (length os)) ≡ step c call
+  same-step = rw (k .cache) (ap (step c) e)
+
+  pub tells : accepts (stepWords ws os list r) ≡ accepted (step c call)
+  tells = accepts-as ws os list r (k .passes) ∙ ap accepted same-step
+
+  pub pictures-next : FloatsOf r → Pictures (stepWords ws os list r .table) (step c call .cache)
+  pictures-next f = rw (← same-step) (pictures-after ws os list r (k .passes) f)
+
+  pub pictures-still : accepts (stepWords ws os list r) ≡ false → Pictures (stepWords ws os list r .table) (step c call .cache)
+  pictures-still h = rw (← same-step) (pictures-refused ws os list r (k .passes) h)
+
 -- ---- opening
 
 -- a table that is too short is refused
@@ -110,8 +128,24 @@ module _ (ws : List ℕ) (n : ℕ) (m : Mode) (t : ℕ) (s : Settings) (f : Floa
   pictures-fresh =
       rw not-refused (pictured (fresh n m t s) (drop (layoutWords n) ws) (fresh-allowed n m t s open-allowed) f)
 
+-- ---- two tables
+
+pub record BothPicture (h : Pair (List ℕ)) (k : Pair Cache) : Type 0 where
+  pub side : (x : Side) → Pictures (at x h) (at x k)
+
+pub one-goes : {h : Pair (List ℕ)} {k : Pair Cache} (x : Side) {ws : List ℕ} {c : Cache} → BothPicture h k → Pictures ws c → BothPicture (put x ws h) (put x c k)
+one-goes x b p = record { side = each-put (λ y ws c. Pictures ws c) x p (b .side) }
+
+module _ (a b : List ℕ) (n m t : ℕ) (s u : Settings) (f : FloatsFit s) (g : FloatsFit u) (h : openWords a n Lead t s .answer ≡ Accepted 0) (k : openWords b m Standby t u .answer ≡ Accepted 0) where
+  pub both-fresh : BothPicture (record { one = openWords a n Lead t s .table; two = openWords b m Standby t u .table }) (record { one = fresh n Lead t s; two = fresh m Standby t u })
+  both-fresh = record { side = go }
+    where
+      go : (x : Side) → Pictures (at x (record { one = openWords a n Lead t s .table; two = openWords b m Standby t u .table })) (at x (record { one = fresh n Lead t s; two = fresh m Standby t u }))
+      go one = pictures-fresh a n Lead t s f h
+      go two = pictures-fresh b m Standby t u g k
+
 -- ---- the report
 
-pub reported : (ws : List ℕ) → judgeWords ws ≡ true → reportWords ws ≡ record { answer = Accepted 0; report = reportOf (cacheIn ws) }
+pub reported : {ws : List ℕ} {c : Cache} → Pictures ws c → reportWords ws ≡ record { answer = Accepted 0; report = reportOf c }
 unfolding reportWords
-reported ws v = rw v
+reported k = rw (k .passes, k .cache)

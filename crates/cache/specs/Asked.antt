@@ -15,6 +15,7 @@ use Rattle.rules.specs.Entries.{if_then_else_}
 use Rattle.rules.specs.Hosts.{asking, Pending}
 use Rattle.rules.specs.Ledger.{Ledger, blank, hear, hearList, Shared, Local, Sends}
 use Rattle.rules.specs.Refusals.{refusalOf}
+use Rattle.rules.specs.Sides.{Side, other, Pair, at, put}
 use Rattle.rules.specs.Answers.{verdictOf}
 use Rattle.rules.specs.declared.answer.Verdict.{Verdict}
 use Rattle.rules.specs.declared.answer.Verdict.the-variants as verdict
@@ -30,58 +31,41 @@ askWords table lent list r =
 
 -- ---- runs by asking
 
--- What a host has still to do: nothing; a shared change that both said yes to, on the one table that has not had it, with
--- the words and the list it was asked with; a list for the standby.
+-- What is still to be done: nothing; a shared change that both said yes to and that this host has had, on the other's table,
+-- with the words and the list it was asked with; a list that this host sent, which the other takes.
 pub data Outstanding : Type 0 where
   nothing : Outstanding
-  standbyNext leadNext : {r : Request} → Shared r → ℕ → List ℕ → Outstanding
-  taking : List ℕ → Outstanding
+  doing : Side → {r : Request} → Shared r → ℕ → List ℕ → Outstanding
+  taking : Side → List ℕ → Outstanding
 
 -- The same as the runs of demand 3 name it.
 abbrev pub pendingOf : Outstanding → Pending
 pendingOf nothing = Pending.settled
-pendingOf (standbyNext h n list) = Pending.leadHad h true
-pendingOf (leadNext h n list) = Pending.standbyHad h true
-pendingOf (taking list) = Pending.sent list
+pendingOf (doing x k n list) = Pending.change x k true
+pendingOf (taking x list) = Pending.sent x list
 
--- Another request may come to the lead, or to the standby: it is not the one to do the change next.
-abbrev pub LeadFree : Outstanding → Type 0
-LeadFree nothing = Unit
-LeadFree (standbyNext h n list) = Unit
-LeadFree (leadNext h n list) = ⊥
-LeadFree (taking list) = Unit
-
-abbrev pub StandbyFree : Outstanding → Type 0
-StandbyFree nothing = Unit
-StandbyFree (standbyNext h n list) = ⊥
-StandbyFree (leadNext h n list) = Unit
-StandbyFree (taking list) = Unit
+-- Another request may come to a table: it is not the one to do the change next.
+abbrev pub Free : Side → Outstanding → Type 0
+Free y nothing = Unit
+Free y (doing x k n list) = y ≡ x
+Free y (taking x list) = Unit
 
 -- A shared change is asked of both tables, and done on the one and then the other if both say yes; no request comes to a
 -- table between its yes and its doing. No premise speaks of an answer that a host has not had when it goes on.
-pub data AskedRun (t : ℕ) : List ℕ → List ℕ → Ledger → Outstanding → Type 0 where
+pub data AskedRun (t : ℕ) : Pair (List ℕ) → Ledger → Outstanding → Type 0 where
   opened : (a b : List ℕ) (n m : ℕ) (s u : Settings) → FloatsFit s → FloatsFit u
       → openWords a n Lead t s .answer ≡ Accepted 0 → openWords b m Standby t u .answer ≡ Accepted 0
-      → AskedRun t (openWords a n Lead t s .table) (openWords b m Standby t u .table) blank nothing
-  lead-local : {a b : List ℕ} {l : Ledger} {p : Outstanding} (orders list : List ℕ) (r : Request) → Local r → FloatsOf r → LeadFree p
-      → AskedRun t a b l p → AskedRun t (stepWords a orders list r .table) b l p
-  standby-local : {a b : List ℕ} {l : Ledger} {p : Outstanding} (orders list : List ℕ) (r : Request) → Local r → FloatsOf r → StandbyFree p
-      → AskedRun t a b l p → AskedRun t a (stepWords b orders list r .table) l p
-  lead-refuses : {a b : List ℕ} {l : Ledger} {p : Outstanding} (orders list : List ℕ) (r : Request) → accepts (stepWords a orders list r) ≡ false → LeadFree p
-      → AskedRun t a b l p → AskedRun t (stepWords a orders list r .table) b l p
-  standby-refuses : {a b : List ℕ} {l : Ledger} {p : Outstanding} (orders list : List ℕ) (r : Request) → accepts (stepWords b orders list r) ≡ false → StandbyFree p
-      → AskedRun t a b l p → AskedRun t a (stepWords b orders list r .table) l p
-  lead-first : {a b : List ℕ} {l : Ledger} {r : Request} (h : Shared r) (orders list : List ℕ) (lent : ℕ) (theirs : List ℕ)
-      → askWords a (length orders) list r ≡ verdict.Accepted → askWords b lent theirs r ≡ verdict.Accepted
-      → AskedRun t a b l nothing → AskedRun t (stepWords a orders list r .table) b l (standbyNext h lent theirs)
-  standby-second : {a b : List ℕ} {l : Ledger} {r : Request} (h : Shared r) (orders list : List ℕ)
-      → AskedRun t a b l (standbyNext h (length orders) list) → AskedRun t a (stepWords b orders list r .table) (hear h l) nothing
-  standby-first : {a b : List ℕ} {l : Ledger} {r : Request} (h : Shared r) (orders list : List ℕ) (lent : ℕ) (theirs : List ℕ)
-      → askWords b (length orders) list r ≡ verdict.Accepted → askWords a lent theirs r ≡ verdict.Accepted
-      → AskedRun t a b l nothing → AskedRun t a (stepWords b orders list r .table) l (leadNext h lent theirs)
-  lead-second : {a b : List ℕ} {l : Ledger} {r : Request} (h : Shared r) (orders list : List ℕ)
-      → AskedRun t a b l (leadNext h (length orders) list) → AskedRun t (stepWords a orders list r .table) b (hear h l) nothing
-  lead-sends : {a b : List ℕ} {l : Ledger} {r : Request} (h : Sends r) (orders list : List ℕ) → accepts (stepWords a orders list r) ≡ true
-      → AskedRun t a b l nothing → AskedRun t (stepWords a orders list r .table) b l (taking (listIn (stepWords a orders list r)))
-  standby-takes : {a b : List ℕ} {l : Ledger} (orders list : List ℕ)
-      → AskedRun t a b l (taking list) → AskedRun t a (stepWords b orders list Take .table) (hearList list l) nothing
+      → AskedRun t (record { one = openWords a n Lead t s .table; two = openWords b m Standby t u .table }) blank nothing
+  local : {h : Pair (List ℕ)} {l : Ledger} {p : Outstanding} (x : Side) (orders list : List ℕ) (r : Request) → Local r → FloatsOf r → Free x p
+      → AskedRun t h l p → AskedRun t (put x (stepWords (at x h) orders list r .table) h) l p
+  refuses : {h : Pair (List ℕ)} {l : Ledger} {p : Outstanding} (x : Side) (orders list : List ℕ) (r : Request) → accepts (stepWords (at x h) orders list r) ≡ false → Free x p
+      → AskedRun t h l p → AskedRun t (put x (stepWords (at x h) orders list r .table) h) l p
+  begins : {h : Pair (List ℕ)} {l : Ledger} {r : Request} (x : Side) (k : Shared r) (orders list : List ℕ) (lent : ℕ) (theirs : List ℕ)
+      → askWords (at x h) (length orders) list r ≡ verdict.Accepted → askWords (at (other x) h) lent theirs r ≡ verdict.Accepted
+      → AskedRun t h l nothing → AskedRun t (put x (stepWords (at x h) orders list r .table) h) l (doing x k lent theirs)
+  ends : {h : Pair (List ℕ)} {l : Ledger} {r : Request} (x : Side) (k : Shared r) (orders list : List ℕ)
+      → AskedRun t h l (doing x k (length orders) list) → AskedRun t (put (other x) (stepWords (at (other x) h) orders list r .table) h) (hear k l) nothing
+  sends : {h : Pair (List ℕ)} {l : Ledger} {r : Request} (x : Side) (k : Sends r) (orders list : List ℕ) → accepts (stepWords (at x h) orders list r) ≡ true
+      → AskedRun t h l nothing → AskedRun t (put x (stepWords (at x h) orders list r .table) h) l (taking x (listIn (stepWords (at x h) orders list r)))
+  takes : {h : Pair (List ℕ)} {l : Ledger} (x : Side) (orders list : List ℕ)
+      → AskedRun t h l (taking x list) → AskedRun t (put (other x) (stepWords (at (other x) h) orders list Take .table) h) (hearList list l) nothing

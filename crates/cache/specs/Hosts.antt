@@ -16,8 +16,9 @@ use Rattle.rules.specs.declared.request.Request.{Request}
 use Rattle.rules.specs.declared.request.Request.the-variants.{Insert, Protect, Release, ReleaseChanged, Pin, Unpin, Resize, Discard, Flush, Sync, Take, Configure}
 use Rattle.rules.specs.Answers.{answerOrders}
 use Rattle.rules.specs.Entries.{if_then_else_}
-use Rattle.rules.specs.Hosts.{isAccepted, Pending, settled, leadHad, standbyHad, sent, heard}
+use Rattle.rules.specs.Hosts.{isAccepted, Pending, settled, change, sent, heard}
 use Rattle.rules.specs.Ledger.{Ledger, blank, hearList, Shared, Local, Sends}
+use Rattle.rules.specs.Sides.{Side, other, Pair, at, put}
 use Rattle.layout.specs.Layout.{rowAt, kindWord}
 use Rattle.cache.specs.Tables.{Left, stepWords, openWords, reportWords}
 
@@ -52,35 +53,26 @@ FloatsOf (Configure s) = FloatsFit s
 
 -- ---- runs
 
--- The lead's table, the standby's, the ledger and what is pending after a run. Each request gets its cache's table as the
--- request before left it, with any order slice and any list. What may come, and when, is as in the rules' own runs: both
--- get each shared change, and the standby takes each list before the next list or change.
-pub data TableRun (t : ℕ) : List ℕ → List ℕ → Ledger → Pending → Type 0 where
+-- The two tables, the ledger and what is pending after a run. Each request gets its cache's table as the request before
+-- left it, with any order slice and any list. What may come, and when, is as in the rules' own runs: both get each shared
+-- change, and a list that the one sends the other takes before the next list or change.
+pub data TableRun (t : ℕ) : Pair (List ℕ) → Ledger → Pending → Type 0 where
   opened : (a b : List ℕ) (n m : ℕ) (s u : Settings) → FloatsFit s → FloatsFit u
       → openWords a n Lead t s .answer ≡ Accepted 0 → openWords b m Standby t u .answer ≡ Accepted 0
-      → TableRun t (openWords a n Lead t s .table) (openWords b m Standby t u .table) blank settled
-  lead-local : {a b : List ℕ} {l : Ledger} {p : Pending} (orders list : List ℕ) (r : Request) → Local r → FloatsOf r
-      → TableRun t a b l p → TableRun t (stepWords a orders list r .table) b l p
-  standby-local : {a b : List ℕ} {l : Ledger} {p : Pending} (orders list : List ℕ) (r : Request) → Local r → FloatsOf r
-      → TableRun t a b l p → TableRun t a (stepWords b orders list r .table) l p
-  lead-refuses : {a b : List ℕ} {l : Ledger} {p : Pending} (orders list : List ℕ) (r : Request) → accepts (stepWords a orders list r) ≡ false
-      → TableRun t a b l p → TableRun t (stepWords a orders list r .table) b l p
-  standby-refuses : {a b : List ℕ} {l : Ledger} {p : Pending} (orders list : List ℕ) (r : Request) → accepts (stepWords b orders list r) ≡ false
-      → TableRun t a b l p → TableRun t a (stepWords b orders list r .table) l p
-  lead-first : {a b : List ℕ} {l : Ledger} {r : Request} (h : Shared r) (orders list : List ℕ)
-      → TableRun t a b l settled → TableRun t (stepWords a orders list r .table) b l (leadHad h (accepts (stepWords a orders list r)))
-  standby-second : {a b : List ℕ} {l : Ledger} {r : Request} (h : Shared r) (orders list : List ℕ) (ok : Bool)
-      → accepts (stepWords b orders list r) ≡ ok
-      → TableRun t a b l (leadHad h ok) → TableRun t a (stepWords b orders list r .table) (heard ok h l) settled
-  standby-first : {a b : List ℕ} {l : Ledger} {r : Request} (h : Shared r) (orders list : List ℕ)
-      → TableRun t a b l settled → TableRun t a (stepWords b orders list r .table) l (standbyHad h (accepts (stepWords b orders list r)))
-  lead-second : {a b : List ℕ} {l : Ledger} {r : Request} (h : Shared r) (orders list : List ℕ) (ok : Bool)
-      → accepts (stepWords a orders list r) ≡ ok
-      → TableRun t a b l (standbyHad h ok) → TableRun t (stepWords a orders list r .table) b (heard ok h l) settled
-  lead-sends : {a b : List ℕ} {l : Ledger} {r : Request} (h : Sends r) (orders list : List ℕ) → accepts (stepWords a orders list r) ≡ true
-      → TableRun t a b l settled → TableRun t (stepWords a orders list r .table) b l (sent (listIn (stepWords a orders list r)))
-  standby-takes : {a b : List ℕ} {l : Ledger} (orders list : List ℕ) → accepts (stepWords b orders list Take) ≡ true
-      → TableRun t a b l (sent list) → TableRun t a (stepWords b orders list Take .table) (hearList list l) settled
+      → TableRun t (record { one = openWords a n Lead t s .table; two = openWords b m Standby t u .table }) blank settled
+  local : {h : Pair (List ℕ)} {l : Ledger} {p : Pending} (x : Side) (orders list : List ℕ) (r : Request) → Local r → FloatsOf r
+      → TableRun t h l p → TableRun t (put x (stepWords (at x h) orders list r .table) h) l p
+  refuses : {h : Pair (List ℕ)} {l : Ledger} {p : Pending} (x : Side) (orders list : List ℕ) (r : Request) → accepts (stepWords (at x h) orders list r) ≡ false
+      → TableRun t h l p → TableRun t (put x (stepWords (at x h) orders list r .table) h) l p
+  begins : {h : Pair (List ℕ)} {l : Ledger} {r : Request} (x : Side) (k : Shared r) (orders list : List ℕ)
+      → TableRun t h l settled → TableRun t (put x (stepWords (at x h) orders list r .table) h) l (change x k (accepts (stepWords (at x h) orders list r)))
+  ends : {h : Pair (List ℕ)} {l : Ledger} {r : Request} (x : Side) (k : Shared r) (orders list : List ℕ) (ok : Bool)
+      → accepts (stepWords (at (other x) h) orders list r) ≡ ok
+      → TableRun t h l (change x k ok) → TableRun t (put (other x) (stepWords (at (other x) h) orders list r .table) h) (heard ok k l) settled
+  sends : {h : Pair (List ℕ)} {l : Ledger} {r : Request} (x : Side) (k : Sends r) (orders list : List ℕ) → accepts (stepWords (at x h) orders list r) ≡ true
+      → TableRun t h l settled → TableRun t (put x (stepWords (at x h) orders list r .table) h) l (sent x (listIn (stepWords (at x h) orders list r)))
+  takes : {h : Pair (List ℕ)} {l : Ledger} (x : Side) (orders list : List ℕ) → accepts (stepWords (at (other x) h) orders list Take) ≡ true
+      → TableRun t h l (sent x list) → TableRun t (put (other x) (stepWords (at (other x) h) orders list Take .table) h) (hearList list l) settled
 
 -- ---- the demand
 
@@ -102,14 +94,12 @@ dueIn ws = ltb (getD ws 3 0) (getD ws 7 0)
 
 -- The same dirty records at the same sizes, the same byte count and the same word on whether a list is due, and these
 -- records, sizes and count are what the ledger gives.
-pub record TablesAgree (a b : List ℕ) (l : Ledger) : Type 0 where
-  pub lead : ledgerIn a ≡ l
-  pub standby : ledgerIn b ≡ l
-  pub due : dueIn a ≡ dueIn b
+pub record TablesAgree (h : Pair (List ℕ)) (l : Ledger) : Type 0 where
+  pub ledger : (x : Side) → ledgerIn (at x h) ≡ l
+  pub due : dueIn (h .one) ≡ dueIn (h .two)
 
 -- Both reports are given, and they have the same byte count and say alike whether a list is due.
-pub record ReportsAgree (a b : List ℕ) : Type 0 where
-  pub lead : reportWords a .answer ≡ Accepted 0
-  pub standby : reportWords b .answer ≡ Accepted 0
-  pub count : reportWords a .report .count ≡ reportWords b .report .count
-  pub due : reportWords a .report .due ≡ reportWords b .report .due
+pub record ReportsAgree (h : Pair (List ℕ)) : Type 0 where
+  pub answer : (x : Side) → reportWords (at x h) .answer ≡ Accepted 0
+  pub count : reportWords (h .one) .report .count ≡ reportWords (h .two) .report .count
+  pub due : reportWords (h .one) .report .due ≡ reportWords (h .two) .report .due

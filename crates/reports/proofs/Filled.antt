@@ -14,7 +14,7 @@ use Rattle.rules.specs.declared.entry.Row.{Row}
 use Rattle.rules.specs.declared.entry.Row.the-variants.{Free, Used}
 use Rattle.rules.specs.Entries.{if_then_else_}
 use Rattle.rules.specs.Limits.{mostIdle, mostRows, mostSize}
-use Rattle.rules.specs.Reports.{idleBytes, totalsFrom}
+use Rattle.rules.specs.Reports.{idleCount, idleBytes, totalsFrom}
 use Rattle.rules.specs.Rows.{total}
 use Rattle.rules.proofs.Tests.{split, if-same}
 use Rattle.layout.specs.Layout.{rowAt}
@@ -46,13 +46,13 @@ idle-most (Used e) h = h .idle
 
 -- ---- the totals
 
-totals-at : (k n : ℕ) (rows : List Row) (j : ℕ) → j < n → getD (totalsFrom k n rows) j 0 ≡ idleBytes rows (k + j)
+totals-at : (k n : ℕ) (rows : List Row) (j : ℕ) → j < n → getD (totalsFrom idleCount k n rows) j 0 ≡ idleBytes rows (k + j)
 unfolding totalsFrom
 totals-at k zero rows j h = absurd (not-suc-le-zero h)
 totals-at k (suc n) rows zero h = ap (idleBytes rows) (let e : k ≡ k + 0 = omega arith in e)
 totals-at k (suc n) rows (suc j) h = totals-at (suc k) n rows j (le-of-suc-le-suc h) ∙ ap (idleBytes rows) (let e : suc k + j ≡ k + suc j = omega arith in e)
 
-totals-long : (k n : ℕ) (rows : List Row) → length (totalsFrom k n rows) ≡ n
+totals-long : (k n : ℕ) (rows : List Row) → length (totalsFrom idleCount k n rows) ≡ n
 unfolding totalsFrom
 totals-long k zero rows = refl
 totals-long k (suc n) rows = ap suc (totals-long (suc k) n rows)
@@ -119,10 +119,10 @@ module _ {table totals : List ℕ} {i rows : ℕ} (g : GoodRows table rows) (k :
           ∙ omega arith);
     }
 
-  pub filled-end : rows ≤ i → totals ≡ totalsFrom 0 11 (cacheIn table .rows)
+  pub filled-end : rows ≤ i → totals ≡ totalsFrom idleCount 0 11 (cacheIn table .rows)
   filled-end h =
       let n = k .eleven in
-      ext-getD 0 totals (totalsFrom 0 11 (cacheIn table .rows)) (n ∙ sym (totals-long 0 11 (cacheIn table .rows)))
+      ext-getD 0 totals (totalsFrom idleCount 0 11 (cacheIn table .rows)) (n ∙ sym (totals-long 0 11 (cacheIn table .rows)))
       (λ j l. whole j ∙ ap (idleBytes (cacheIn table .rows)) (let e : j ≡ 0 + j = omega arith in e) ∙ sym (totals-at 0 11 (cacheIn table .rows) j (omega arith)))
     where
       whole : (j : ℕ) → getD totals j 0 ≡ idleBytes (cacheIn table .rows) j

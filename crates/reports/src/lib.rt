@@ -1,6 +1,6 @@
 // The report of the cache that a good table holds.
 ghost use mathlib.Core.Path.{_≡_};
-ghost use Rattle.rules.specs.Reports.{reportOf, totalsFrom};
+ghost use Rattle.rules.specs.Reports.{reportOf, idleCount, totalsFrom};
 ghost use Rattle.layout.specs.Holds.{Good};
 ghost use Rattle.layout.specs.Picture.{cacheIn};
 ghost use Rattle.table.specs.Asked.{GoodRows};
@@ -19,7 +19,7 @@ use table::sums::held_bytes;
 // The eleven byte totals, one for each idle count. A free row is all zero and adds nothing.
 pub fn idle_totals(table: &[u64], rows: usize) -> [u64; 11]
     requires { ⌜ GoodRows (now table) rows ⌝ }
-    ensures { λ r. ⌜ r ≡ totalsFrom 0 11 (cacheIn (now (table .entry)) .rows) ⌝ }
+    ensures { λ r. ⌜ r ≡ totalsFrom idleCount 0 11 (cacheIn (now (table .entry)) .rows) ⌝ }
 {
     let mut totals = [0u64; 11];
     let mut i: usize = 0;

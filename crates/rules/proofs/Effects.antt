@@ -1,4 +1,4 @@
--- What an accepted request leaves: a sound cache with its mode, threshold and rows, entries within their limits, held bytes that differ by
+-- What an accepted request leaves: a sound cache with its threshold and rows, entries within their limits, held bytes that differ by
 -- what came and what went, and no more orders than document 01 has words for.
 use Prim.Native.Nat.{ℕ, _+_, _-_, _*_, _≤_}
 use mathlib.Core.Path.{_≡_, refl, sym, ap, _∙_}
@@ -101,7 +101,7 @@ module _ {c : Cache} {came went : ℕ} where
     goes {v = v} m =
         let k = moved m (d .sound) in
         record {
-          kept = record { mode = k .kept .mode ∙ d .kept .mode; threshold = k .kept .threshold ∙ d .kept .threshold; rows = k .kept .rows ∙ d .kept .rows };
+          kept = record { threshold = k .kept .threshold ∙ d .kept .threshold; rows = k .kept .rows ∙ d .kept .rows };
           sound = moves-sound m (d .sound);
           entries = λ f. k .entries (d .entries f);
           held = let i = k .held in let j = d .held in omega arith;
@@ -110,7 +110,7 @@ module _ {c : Cache} {came went : ℕ} where
 
     recounted : (n : ℕ) → Doing c came went extra (record { cache = withCount n (w .cache); orders = w .orders })
     recounted n = record {
-      kept = record { mode = d .kept .mode; threshold = d .kept .threshold; rows = d .kept .rows };
+      kept = record { threshold = d .kept .threshold; rows = d .kept .rows };
       sound = sound-same (w .cache) (withCount n (w .cache)) refl refl (d .sound);
       entries = d .entries;
       held = d .held;
@@ -122,7 +122,7 @@ module _ {c : Cache} {came went : ℕ} where
 
 -- the cache is as it was
 starts-same : {c : Cache} → Sound c → Doing c 0 0 0 (start c)
-starts-same k = starts (record { mode = refl; threshold = refl; rows = refl }) k (λ f. f) refl
+starts-same k = starts (record { threshold = refl; rows = refl }) k (λ f. f) refl
 
 -- ---- entries within their limits
 
@@ -192,7 +192,7 @@ module _ (a s : ℕ) (c : Cache) (k : Sound c) (ok : badAddress a ≡ false) (si
       let e = newEntry a s false (joined x Unheld) in
       let d = arrives in
       record {
-        kept = record { mode = d .kept .mode; threshold = d .kept .threshold; rows = length-place e (w .cache .rows) ∙ d .kept .rows };
+        kept = record { threshold = d .kept .threshold; rows = length-place e (w .cache .rows) ∙ d .kept .rows };
         sound = sound-load x a s (w .cache) (r .free) (r .absent) (r .sound);
         entries = λ f. fit-place e (w .cache .rows) (r .free) (r .absent) (new-allowed a s ok sized false (joined x Unheld) (joined-new x)) (d .entries f);
         held = rw (evicted-append (w .orders)) (let i = total-place (λ e. e .size) e (w .cache .rows) (r .free) in let j = d .held in omega arith);
@@ -249,7 +249,7 @@ module _ (a : ℕ) (f : Entry → Entry) (keeps : (e : Entry) → f e .address �
   module _ {came went : ℕ} (fits : Fits) (h : total (λ e. e .size) (amend a f (c .rows)) + went ≡ held c + came) where
     changes : (l : List ℕ) → Sound (withRows (amend a f (d .rows)) l d) → Doing c came went 0 (start (withRows (amend a f (d .rows)) l d))
     changes l s =
-        starts (record { mode = b .mode; threshold = b .threshold; rows = rw (b .rows) (length-amend a f (c .rows)) }) s
+        starts (record { threshold = b .threshold; rows = rw (b .rows) (length-amend a f (c .rows)) }) s
         (rw (b .rows) (fit-amend a f keeps (c .rows) fits)) (rw (b .rows) h)
 
     touches : Doing c came went 0 (start (touch a f d))
@@ -353,7 +353,7 @@ insert-done a s c lent list k h =
     let e = newEntry a s true Unheld in
     let d = arrives a s c k (f .1 .0) (f .1 .1 .0) r in
     record {
-      kept = record { mode = d .kept .mode; threshold = d .kept .threshold; rows = length-place e (w .cache .rows) ∙ d .kept .rows };
+      kept = record { threshold = d .kept .threshold; rows = length-place e (w .cache .rows) ∙ d .kept .rows };
       sound = let i = sound-place e (w .cache) (r .free) (r .absent) (r .sound) in record { distinct = i .distinct; listed = i .listed; once = i .once };
       entries = λ i. fit-place e (w .cache .rows) (r .free) (r .absent) (new-allowed a s (f .1 .0) (f .1 .1 .0) true Unheld tt) (d .entries i);
       held = let i = total-place (λ e. e .size) e (w .cache .rows) (r .free) in let j = d .held in omega arith;
@@ -366,7 +366,7 @@ releases a c d k = goes k (released-moves {sets = false} a d (k .sound))
 -- entries become clean where they stand, with any byte count
 cleans : (n : ℕ) (c : Cache) (l : List ℕ) → Sound c → Doing c 0 0 0 (start (withCount n (withRows (amendEach l cleaned (c .rows)) (c .recency) c)))
 cleans n c l k =
-    starts (record { mode = refl; threshold = refl; rows = length-each l cleaned (c .rows) })
+    starts (record { threshold = refl; rows = length-each l cleaned (c .rows) })
     (let i = sound-clean l c k in record { distinct = i .distinct; listed = i .listed; once = i .once })
     (fit-clean l (c .rows)) (let i = total-each (λ e. e .size) l cleaned (λ e. refl) (c .rows) in omega arith)
 
@@ -394,7 +394,7 @@ effects c lent list (Resize a s) k h =
     ends (amends a (changedTo s) (λ e. refl) k (named-books a s c) (λ e g. changed-allowed s e (f .1 .0))
     (size-taken a (changedTo s) (λ e. refl) k (named-books a s c) s (λ e. refl) (not-false _ (f .1 .1 .0))) (changed-stays s (get (c .rows) a))) (omega arith)
 effects c lent list (Discard a) k h =
-    ends {came = 0} {went = sizeAt (c .rows) a} (starts (record { mode = refl; threshold = refl; rows = length-remove a (c .rows) }) (sound-remove a c k) (fit-remove a (c .rows))
+    ends {came = 0} {went = sizeAt (c .rows) a} (starts (record { threshold = refl; rows = length-remove a (c .rows) }) (sound-remove a c k) (fit-remove a (c .rows))
     (let i = total-remove (λ e. e .size) a (c .rows) (k .distinct) in omega arith)) (omega arith)
 effects c lent list Flush k h =
     let l = dirtyRising (c .rows) in
@@ -411,4 +411,4 @@ effects c lent list Sync k h =
     ends (recounted d 0) (omega arith)
 effects c lent list Take k h = ends (cleans _ c list k) (omega arith)
 effects c lent list (Configure s) k h =
-    ends {came = 0} {went = 0} (makes-room (starts (record { mode = refl; threshold = refl; rows = refl }) (sound-same c (configured s c) refl refl k) (λ f. f) refl) 0 false) (omega arith)
+    ends {came = 0} {went = 0} (makes-room (starts (record { threshold = refl; rows = refl }) (sound-same c (configured s c) refl refl k) (λ f. f) refl) 0 false) (omega arith)

@@ -19,6 +19,7 @@ pub mod Allowed
 pub mod Rising
 pub mod Follow
 pub mod Sent
+pub mod Sides
 pub mod Hosts
 pub mod Given
 pub mod Precedence

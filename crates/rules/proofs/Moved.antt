@@ -1,4 +1,4 @@
--- What moves keep: the mode, the threshold and the number of rows; a sound cache; what was absent; held bytes with what left in evict
+-- What moves keep: the threshold and the number of rows; a sound cache; what was absent; held bytes with what left in evict
 -- orders; and the orders that can still come, of which each move uses one.
 use Prim.Native.Nat.{ℕ, _+_, _*_, _≤_}
 use mathlib.Core.Path.{_≡_, refl, ap, _∙_}
@@ -64,7 +64,7 @@ pub record Moved (w v : Work) : Type 0 where
 
 moved-trans : {u v w : Work} → Moved u v → Moved v w → Moved u w
 moved-trans p q = record {
-  kept = record { mode = q .kept .mode ∙ p .kept .mode; threshold = q .kept .threshold ∙ p .kept .threshold; rows = q .kept .rows ∙ p .kept .rows };
+  kept = record { threshold = q .kept .threshold ∙ p .kept .threshold; rows = q .kept .rows ∙ p .kept .rows };
   absent = λ b n. q .absent b (p .absent b n);
   entries = λ f. q .entries (p .entries f);
   held = q .held ∙ p .held;
@@ -75,7 +75,7 @@ module _ (a : ℕ) (w : Work) (e : Entry) (k : Sound (w .cache)) (g : get (w .ca
   moved-evict : e .dirty ≡ false → Moved w (evict a w)
   unfolding evictedBytes
   moved-evict d = record {
-    kept = record { mode = refl; threshold = refl; rows = length-remove a (w .cache .rows) };
+    kept = record { threshold = refl; rows = length-remove a (w .cache .rows) };
     absent = λ b n. rw (get-remove a b (w .cache .rows), n) (if-same (eqb a b) none);
     entries = fit-remove a (w .cache .rows);
     held = rw (evicted-append (w .orders)) (let h = total-remove (λ e. e .size) a (w .cache .rows) (k .distinct) in omega arith);
@@ -86,7 +86,7 @@ module _ (a : ℕ) (w : Work) (e : Entry) (k : Sound (w .cache)) (g : get (w .ca
   moved-write : (r : List ℕ) → e .dirty ≡ true → Moved w (write a r w)
   unfolding evictedBytes
   moved-write r d = record {
-    kept = record { mode = refl; threshold = refl; rows = length-amend a cleaned (w .cache .rows) };
+    kept = record { threshold = refl; rows = length-amend a cleaned (w .cache .rows) };
     absent = λ b n. rw (get-amend a cleaned (λ e. refl) b (w .cache .rows), n) (if-same (eqb a b) none);
     entries = fit-amend a cleaned (λ e. refl) (w .cache .rows) (λ e g. clean-allowed e);
     held = rw (evicted-append (w .orders)) (let h = total-same (λ e. e .size) a cleaned (λ e. refl) (w .cache .rows) in omega arith);
@@ -99,7 +99,7 @@ older-allowed e k = record { address = k .address; nonempty = k .nonempty; size 
 
 moved-ages : (w : Work) → Moved w (idled w)
 moved-ages w = record {
-  kept = record { mode = refl; threshold = refl; rows = length-amendAll older (w .cache .rows) };
+  kept = record { threshold = refl; rows = length-amendAll older (w .cache .rows) };
   absent = λ b n. rw (get-amendAll older (λ e. refl) b (w .cache .rows), n);
   entries = fit-all older (λ e. refl) older-allowed (w .cache .rows);
   held = ap (λ (n : ℕ). n + evictedBytes (w .orders)) (total-all (λ e. e .size) older (λ e. refl) (w .cache .rows));
@@ -108,7 +108,7 @@ moved-ages w = record {
 
 -- figures change, and the rows do not
 moved-tunes : (n h k : ℕ) (w : Work) → Moved w (tuned n h k w)
-moved-tunes n h k w = record { kept = record { mode = refl; threshold = refl; rows = refl }; absent = λ b i. i; entries = λ f. f; held = refl; orders = refl }
+moved-tunes n h k w = record { kept = record { threshold = refl; rows = refl }; absent = λ b i. i; entries = λ f. f; held = refl; orders = refl }
 
 -- ---- moves
 

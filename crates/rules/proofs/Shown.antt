@@ -1,5 +1,5 @@
--- Runs as demand 3 speaks of exist: one in which each host opens, asks, is refused, has a change first and second, accepted and refused,
--- and in which lists are sent and taken.
+-- Runs as demand 3 speaks of exist: one in which each host opens, gets local requests, is refused, has a change first and second,
+-- accepted and refused, and in which lists are sent and taken.
 use mathlib.Core.Path.{refl}
 use mathlib.Core.Bool.{true, false}
 use mathlib.Core.List.{[], _∷_}
@@ -7,30 +7,29 @@ use Rattle.rules.specs.declared.request.Access.the-variants.{Reading, Wr
 use Rattle.rules.specs.declared.request.Request.the-variants.{Protect, Release, Pin, Unpin, Flush, Sync, Take, Configure}
 use Rattle.rules.specs.Cache.{Cache}
 use Rattle.rules.specs.Cases.{ask, small}
-use Rattle.rules.specs.Hosts.{settled, sent, Run, opened, lead-local, standby-local, lead-refuses, standby-refuses, lead-first, standby-second, standby-first, lead-second, lead-sends, standby-takes, Agree}
+use Rattle.rules.specs.Hosts.{settled, Run, opened, local, refuses, begins, ends, sends, takes, Agree}
 use Rattle.rules.specs.Ledger.{Ledger, insert, changed, resize, discard, protect, unchanged, pin, unpin, configure, flush, sync}
+use Rattle.rules.specs.Sides.{one, two, Pair}
 use Rattle.rules.proofs.Hosts.{demand3}
 use Rattle.rules.proofs.Cases.{computing}
 
 -- a run in which nothing is pending
 pub record Played : Type 0 where
-  pub lead : Cache
-  pub standby : Cache
+  pub hosts : Pair Cache
   pub ledger : Ledger
-  pub run : Run 1000 lead standby ledger settled
+  pub run : Run 1000 hosts ledger settled
 
 -- changes that both accept, to either first
 unfoldable pub both-accept : Played
 unfolding computing
 both-accept = record {
-  lead = _;
-  standby = _;
+  hosts = _;
   ledger = _;
   run =
-      lead-second (insert 200 60) [] 27 true refl
-      (standby-first (insert 200 60) [] 27
-      (standby-second (insert 100 50) [] 27 true refl
-      (lead-first (insert 100 50) [] 27
+      ends two (insert 200 60) [] 27 true refl
+      (begins two (insert 200 60) [] 27
+      (ends one (insert 100 50) [] 27 true refl
+      (begins one (insert 100 50) [] 27
       (opened 4 3 small small refl refl))));
 }
 
@@ -38,14 +37,13 @@ both-accept = record {
 unfoldable pub both-refuse : Played
 unfolding computing both-accept
 both-refuse = record {
-  lead = _;
-  standby = _;
+  hosts = _;
   ledger = _;
   run =
-      lead-second (resize 300 10) [] 27 false refl
-      (standby-first (resize 300 10) [] 27
-      (standby-second (insert 100 50) [] 27 false refl
-      (lead-first (insert 100 50) [] 27
+      ends two (resize 300 10) [] 27 false refl
+      (begins two (resize 300 10) [] 27
+      (ends one (insert 100 50) [] 27 false refl
+      (begins one (insert 100 50) [] 27
       (both-accept .run))));
 }
 
@@ -53,20 +51,19 @@ both-refuse = record {
 unfoldable pub locals : Played
 unfolding computing both-refuse
 locals = record {
-  lead = _;
-  standby = _;
+  hosts = _;
   ledger = _;
   run =
-      standby-refuses (ask Flush) refl
-      (lead-refuses (ask Take) refl
-      (standby-local (ask (Protect Writing 100 50)) (protect Writing 100 50)
-      (standby-local (ask (Protect Reading 300 10)) (protect Reading 300 10)
-      (lead-local (ask (Configure small)) (configure small)
-      (lead-local (ask (Protect Writing 100 50)) (protect Writing 100 50)
-      (lead-local (ask (Unpin 100)) (unpin 100)
-      (lead-local (ask (Release 100)) (unchanged 100)
-      (lead-local (ask (Pin 100)) (pin 100)
-      (lead-local (ask (Protect Reading 100 50)) (protect Reading 100 50)
+      refuses two (ask Flush) refl
+      (refuses one (ask Take) refl
+      (local two (ask (Protect Writing 100 50)) (protect Writing 100 50)
+      (local two (ask (Protect Reading 300 10)) (protect Reading 300 10)
+      (local one (ask (Configure small)) (configure small)
+      (local one (ask (Protect Writing 100 50)) (protect Writing 100 50)
+      (local one (ask (Unpin 100)) (unpin 100)
+      (local one (ask (Release 100)) (unchanged 100)
+      (local one (ask (Pin 100)) (pin 100)
+      (local one (ask (Protect Reading 100 50)) (protect Reading 100 50)
       (both-refuse .run))))))))));
 }
 
@@ -74,24 +71,23 @@ locals = record {
 unfoldable pub lists : Played
 unfolding computing locals
 lists = record {
-  lead = _;
-  standby = _;
+  hosts = _;
   ledger = _;
   run =
-      standby-takes [] 0 refl
-      (lead-sends (ask Sync) sync refl
-      (standby-takes (100 ∷ []) 0 refl
-      (standby-local (ask (Release 300)) (unchanged 300)
-      (lead-sends (ask Flush) flush refl
-      (lead-second (discard 200) [] 0 true refl
-      (standby-first (discard 200) [] 0
-      (standby-second (changed 100 70) [] 27 true refl
-      (lead-local (ask (Configure small)) (configure small)
-      (lead-first (changed 100 70) [] 27
-      (standby-second (resize 100 90) [] 0 true refl
-      (lead-first (resize 100 90) [] 0
+      takes one [] 0 refl
+      (sends one (ask Sync) sync refl
+      (takes one (100 ∷ []) 0 refl
+      (local two (ask (Release 300)) (unchanged 300)
+      (sends one (ask Flush) flush refl
+      (ends two (discard 200) [] 0 true refl
+      (begins two (discard 200) [] 0
+      (ends one (changed 100 70) [] 27 true refl
+      (local one (ask (Configure small)) (configure small)
+      (begins one (changed 100 70) [] 27
+      (ends one (resize 100 90) [] 0 true refl
+      (begins one (resize 100 90) [] 0
       (locals .run))))))))))));
 }
 
-shown : Agree (lists .lead) (lists .standby) (lists .ledger)
+shown : Agree (lists .hosts) (lists .ledger)
 shown = demand3 (lists .run)

@@ -15,6 +15,7 @@ use Rattle.rules.specs.Ledger.{Ledger, ledgerOf, blank, hear, hearList, 
 use Rattle.rules.specs.Opening.{refusalOfOpening}
 use Rattle.rules.specs.Refusals.{Call}
 use Rattle.rules.specs.Requests.{Outcome, step}
+use Rattle.rules.specs.Sides.{Side, other, Pair, at, put}
 
 abbrev pub isAccepted : Answer → Bool
 isAccepted (Accepted n) = true
@@ -31,48 +32,40 @@ asking r list lent = record { request = r; list = list; lent = lent }
 pub data Pending : Type 0 where
   -- nothing
   settled : Pending
-  -- a shared change, and whether the lead, or the standby, accepted it
-  leadHad standbyHad : {r : Request} → Shared r → Bool → Pending
-  -- a list that the lead sent
-  sent : List ℕ → Pending
+  -- a shared change that this host had first, and whether it accepted it
+  change : Side → {r : Request} → Shared r → Bool → Pending
+  -- a list that this host sent
+  sent : Side → List ℕ → Pending
 
 -- The ledger hears of a change that both accept.
 abbrev pub heard : Bool → {r : Request} → Shared r → Ledger → Ledger
 heard true h l = hear h l
 heard false h l = l
 
--- The lead, the standby, the ledger and what is pending after a run, where each request gets its cache as the request
--- before left it. A shared change goes to both, to either first, and both accept it or both refuse it. A list goes to
--- the standby before the next list or change. Local requests, and refused ones of any kind, may come at any time.
-pub data Run (t : ℕ) : Cache → Cache → Ledger → Pending → Type 0 where
+-- The two caches, the ledger and what is pending after a run, where each request gets its cache as the request before
+-- left it. A shared change goes to both, to either first, and both accept it or both refuse it. A list that the one sends
+-- (the lead: a standby refuses flush and sync) goes to the other before the next list or change. Local requests, and refused
+-- ones of any kind, may come at any time.
+pub data Run (t : ℕ) : Pair Cache → Ledger → Pending → Type 0 where
   opened : (n m : ℕ) (s u : Settings) → refusalOfOpening n true (some Lead) t s ≡ none → refusalOfOpening m true (some Standby) t u ≡ none
-      → Run t (fresh n Lead t s) (fresh m Standby t u) blank settled
-  lead-local : {a b : Cache} {l : Ledger} {p : Pending} (call : Call) → Local (call .request)
-      → Run t a b l p → Run t (step a call .cache) b l p
-  standby-local : {a b : Cache} {l : Ledger} {p : Pending} (call : Call) → Local (call .request)
-      → Run t a b l p → Run t a (step b call .cache) l p
-  lead-refuses : {a b : Cache} {l : Ledger} {p : Pending} (call : Call) → accepted (step a call) ≡ false
-      → Run t a b l p → Run t (step a call .cache) b l p
-  standby-refuses : {a b : Cache} {l : Ledger} {p : Pending} (call : Call) → accepted (step b call) ≡ false
-      → Run t a b l p → Run t a (step b call .cache) l p
-  lead-first : {a b : Cache} {l : Ledger} {r : Request} (h : Shared r) (list : List ℕ) (lent : ℕ)
-      → Run t a b l settled → Run t (step a (asking r list lent) .cache) b l (leadHad h (accepted (step a (asking r list lent))))
-  standby-second : {a b : Cache} {l : Ledger} {r : Request} (h : Shared r) (list : List ℕ) (lent : ℕ) (ok : Bool)
-      → accepted (step b (asking r list lent)) ≡ ok
-      → Run t a b l (leadHad h ok) → Run t a (step b (asking r list lent) .cache) (heard ok h l) settled
-  standby-first : {a b : Cache} {l : Ledger} {r : Request} (h : Shared r) (list : List ℕ) (lent : ℕ)
-      → Run t a b l settled → Run t a (step b (asking r list lent) .cache) l (standbyHad h (accepted (step b (asking r list lent))))
-  lead-second : {a b : Cache} {l : Ledger} {r : Request} (h : Shared r) (list : List ℕ) (lent : ℕ) (ok : Bool)
-      → accepted (step a (asking r list lent)) ≡ ok
-      → Run t a b l (standbyHad h ok) → Run t (step a (asking r list lent) .cache) b (heard ok h l) settled
-  lead-sends : {a b : Cache} {l : Ledger} (call : Call) → Sends (call .request) → accepted (step a call) ≡ true
-      → Run t a b l settled → Run t (step a call .cache) b l (sent (sentBy (step a call)))
-  standby-takes : {a b : Cache} {l : Ledger} (list : List ℕ) (lent : ℕ) → accepted (step b (asking Take list lent)) ≡ true
-      → Run t a b l (sent list) → Run t a (step b (asking Take list lent) .cache) (hearList list l) settled
+      → Run t (record { one = fresh n Lead t s; two = fresh m Standby t u }) blank settled
+  local : {h : Pair Cache} {l : Ledger} {p : Pending} (x : Side) (call : Call) → Local (call .request)
+      → Run t h l p → Run t (put x (step (at x h) call .cache) h) l p
+  refuses : {h : Pair Cache} {l : Ledger} {p : Pending} (x : Side) (call : Call) → accepted (step (at x h) call) ≡ false
+      → Run t h l p → Run t (put x (step (at x h) call .cache) h) l p
+  begins : {h : Pair Cache} {l : Ledger} {r : Request} (x : Side) (k : Shared r) (list : List ℕ) (lent : ℕ)
+      → Run t h l settled
+      → Run t (put x (step (at x h) (asking r list lent) .cache) h) l (change x k (accepted (step (at x h) (asking r list lent))))
+  ends : {h : Pair Cache} {l : Ledger} {r : Request} (x : Side) (k : Shared r) (list : List ℕ) (lent : ℕ) (ok : Bool)
+      → accepted (step (at (other x) h) (asking r list lent)) ≡ ok
+      → Run t h l (change x k ok) → Run t (put (other x) (step (at (other x) h) (asking r list lent) .cache) h) (heard ok k l) settled
+  sends : {h : Pair Cache} {l : Ledger} (x : Side) (call : Call) → Sends (call .request) → accepted (step (at x h) call) ≡ true
+      → Run t h l settled → Run t (put x (step (at x h) call .cache) h) l (sent x (sentBy (step (at x h) call)))
+  takes : {h : Pair Cache} {l : Ledger} (x : Side) (list : List ℕ) (lent : ℕ) → accepted (step (at (other x) h) (asking Take list lent)) ≡ true
+      → Run t h l (sent x list) → Run t (put (other x) (step (at (other x) h) (asking Take list lent) .cache) h) (hearList list l) settled
 
 -- Demand 3: the same dirty records at the same sizes, the same byte count and the same word on whether a list is due,
 -- and these records, sizes and count are what the ledger gives.
-pub record Agree (a b : Cache) (l : Ledger) : Type 0 where
-  pub lead : ledgerOf a ≡ l
-  pub standby : ledgerOf b ≡ l
-  pub due : due a ≡ due b
+pub record Agree (h : Pair Cache) (l : Ledger) : Type 0 where
+  pub ledger : (x : Side) → ledgerOf (at x h) ≡ l
+  pub due : due (h .one) ≡ due (h .two)

@@ -5,9 +5,8 @@ use lib.ListN.{length}
 use Rattle.rules.specs.Cache.{Cache}
 use Rattle.rules.specs.Requests.{Outcome}
 
--- The mode and the threshold are fixed at opening, and so is the number of rows.
+-- The threshold is fixed at opening, and so is the number of rows.
 pub record Kept (c d : Cache) : Type 0 where
-  pub mode : d .mode ≡ c .mode
   pub threshold : d .threshold ≡ c .threshold
   pub rows : length (d .rows) ≡ length (c .rows)
 

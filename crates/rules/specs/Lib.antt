@@ -13,6 +13,7 @@ pub mod Reports
 pub mod Allowed
 pub mod Cases
 pub mod Ledger
+pub mod Sides
 pub mod Hosts
 pub mod History
 pub mod Loops
