@@ -18,7 +18,7 @@ use Rattle.rules.specs.Requests.{step}
 use Rattle.rules.specs.Sides.{Side, one, two, other, Pair, at, put}
 use Rattle.rules.specs.declared.answer.Verdict.the-variants as verdict
 use Rattle.rules.specs.declared.request.Access.the-variants.{Reading}
-use Rattle.rules.specs.declared.request.Mode.the-variants.{Lead, Standby}
+use Rattle.settings.specs.declared.Mode.the-variants.{Lead, Standby}
 use Rattle.rules.specs.declared.request.Request.{Request}
 use Rattle.rules.specs.declared.request.Request.the-variants.{Protect, Release, Flush, Take}
 use Rattle.layout.specs.Layout.{layoutWords}

@@ -16,7 +16,7 @@ use Rattle.rules.specs.Refusals.{Call}
 use Rattle.rules.specs.Reports.{reportOf}
 use Rattle.rules.specs.Requests.{Outcome, effect}
 use Rattle.rules.specs.declared.answer.Answer.the-variants.{Accepted}
-use Rattle.rules.specs.declared.request.Mode.{Mode}
+use Rattle.settings.specs.declared.Mode.{Mode}
 use Rattle.rules.specs.declared.request.Request.{Request}
 use Rattle.layout.specs.Picture.{cacheIn}
 use Rattle.judge.specs.Verdict.{judgeWords}

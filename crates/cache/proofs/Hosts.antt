@@ -16,7 +16,7 @@ use Rattle.rules.specs.Reports.{reportOf}
 use Rattle.rules.specs.Requests.{Outcome, effect, step}
 use Rattle.rules.specs.Rows.{get}
 use Rattle.rules.specs.Sides.{Side, one, two, other, Pair, at, put}
-use Rattle.rules.specs.declared.request.Mode.the-variants.{Lead, Standby}
+use Rattle.settings.specs.declared.Mode.the-variants.{Lead, Standby}
 use Rattle.rules.specs.declared.request.Request.{Request}
 use Rattle.rules.specs.declared.request.Request.the-variants.{Take}
 use Rattle.layout.specs.Layout.{rowAt}

@@ -15,7 +15,7 @@ use Rattle.rules.specs.Opening.{refusalOfOpening}
 use Rattle.rules.specs.Refusals.{firstOf}
 use Rattle.rules.specs.declared.answer.Answer.the-variants.{Accepted, Refused}
 use Rattle.rules.specs.declared.answer.Refusal.the-variants as refusal
-use Rattle.rules.specs.declared.request.Mode.{Mode}
+use Rattle.settings.specs.declared.Mode.{Mode}
 use Rattle.layout.specs.Layout.{layoutWords}
 use Rattle.layout.specs.Picture.{encode}
 use Rattle.cache.specs.Tables.{opened, openWords}

@@ -24,8 +24,8 @@ use Rattle.rules.specs.Sides.{Side, one, two, Pair, at, put}
 use Rattle.rules.specs.declared.answer.Answer.the-variants.{Accepted, Refused}
 use Rattle.rules.specs.declared.answer.Answer.{Answer}
 use Rattle.rules.specs.declared.answer.Refusal.{Refusal}
-use Rattle.rules.specs.declared.request.Mode.the-variants.{Lead, Standby}
-use Rattle.rules.specs.declared.request.Mode.{Mode}
+use Rattle.settings.specs.declared.Mode.the-variants.{Lead, Standby}
+use Rattle.settings.specs.declared.Mode.{Mode}
 use Rattle.rules.specs.declared.request.Request.{Request}
 use Rattle.layout.proofs.ReadBack.{cache-back}
 use Rattle.layout.specs.Layout.{layoutWords}

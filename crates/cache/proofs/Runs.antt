@@ -19,8 +19,8 @@ use Rattle.rules.specs.Ledger.{Ledger}
 use Rattle.rules.specs.Opening.{refusalOfOpening}
 use Rattle.rules.specs.Sides.{Side, other, Pair, put}
 use Rattle.rules.specs.declared.answer.Answer.the-variants.{Accepted}
-use Rattle.rules.specs.declared.request.Mode.the-variants.{Lead, Standby}
-use Rattle.rules.specs.declared.request.Mode.{Mode}
+use Rattle.settings.specs.declared.Mode.the-variants.{Lead, Standby}
+use Rattle.settings.specs.declared.Mode.{Mode}
 use Rattle.rules.specs.declared.request.Request.{Request}
 use Rattle.rules.specs.declared.request.Request.the-variants.{Take}
 use Rattle.layout.specs.Layout.{layoutWords}

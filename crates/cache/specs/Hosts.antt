@@ -11,7 +11,7 @@ use Rattle.settings_words.specs.FloatsFit.{FloatsFit}
 use Rattle.settings_words.specs.Words.{flagOf}
 use Rattle.rules.specs.declared.answer.Answer.the-variants.{Accepted}
 use Rattle.rules.specs.declared.order.Kind.the-variants.{Write}
-use Rattle.rules.specs.declared.request.Mode.the-variants.{Lead, Standby}
+use Rattle.settings.specs.declared.Mode.the-variants.{Lead, Standby}
 use Rattle.rules.specs.declared.request.Request.{Request}
 use Rattle.rules.specs.declared.request.Request.the-variants.{Insert, Protect, Release, ReleaseChanged, Pin, Unpin, Resize, Discard, Flush, Sync, Take, Configure}
 use Rattle.rules.specs.Answers.{answerOrders}

@@ -11,7 +11,7 @@ use Rattle.rules.specs.declared.answer.Answer.the-variants.{Accepted, Refused}
 use Rattle.rules.specs.declared.answer.Refusal.{Refusal}
 use Rattle.rules.specs.declared.answer.Refusal.the-variants as refusal
 use Rattle.rules.specs.declared.report.Report.{Report}
-use Rattle.rules.specs.declared.request.Mode.{Mode}
+use Rattle.settings.specs.declared.Mode.{Mode}
 use Rattle.rules.specs.declared.request.Request.{Request}
 use Rattle.rules.specs.Cache.{Cache, fresh}
 use Rattle.rules.specs.Entries.{if_then_else_}

@@ -9,7 +9,7 @@ use layout::fresh::write_fresh;
 use layout::place::layout_words;
 use rules::answer::Answer;
 use rules::answer::Refusal;
-use rules::request::Mode;
+use settings::Mode;
 use settings::Settings;
 use settings::first_bad_field;
 

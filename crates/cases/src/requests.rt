@@ -2,8 +2,8 @@
 use rules::answer::Answer;
 use rules::report::Report;
 use rules::request::Access;
-use rules::request::Mode;
 use rules::request::Request;
+use settings::Mode;
 use settings::Settings;
 use shell::ask;
 use shell::print;

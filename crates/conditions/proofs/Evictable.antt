@@ -12,8 +12,8 @@ use Rattle.rules.specs.Cache.{Cache}
 use Rattle.rules.specs.Refusals.{mayEvict, noRow}
 use Rattle.rules.specs.Rows.{cleanAt, hasFree}
 use Rattle.rules.specs.declared.entry.Row.{Row}
-use Rattle.rules.specs.declared.request.Mode.{Mode}
-use Rattle.rules.specs.declared.request.Mode.the-variants.{Alone, Lead, Standby}
+use Rattle.settings.specs.declared.Mode.{Mode}
+use Rattle.settings.specs.declared.Mode.the-variants.{Alone, Lead, Standby}
 
 -- ---- an entry that may be evicted
 

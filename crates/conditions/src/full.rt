@@ -4,7 +4,7 @@ ghost use Rattle.rules.specs.Addresses.{someAddress};
 ghost use Rattle.rules.specs.Refusals.{mayEvict, noRow};
 ghost use Rattle.layout.specs.Picture.{cacheIn};
 ghost use Rattle.table.specs.Asked.{GoodRows};
-use rules::request::Mode;
+use settings::Mode;
 use table::header::mode;
 use table::header::settings;
 use table::runs::has_free;

@@ -4,7 +4,7 @@ ghost use Prim.Native.Nat.{_+_, _*_, _≤_, min};
 ghost use lib.Dec.{ltb};
 ghost use Rattle.rules.specs.Limits.{countStop, defaultThreshold, mostSize, mostRows};
 ghost use Rattle.rules.specs.Refusals.{badAddress, badSize, isAlone, isStandby, isLead};
-use rules::request::Mode;
+use settings::Mode;
 
 const ALL_ONES: u64 = 0xffff_ffff_ffff_ffff;
 

@@ -22,8 +22,8 @@ use Rattle.rules.specs.declared.entry.Entry.{Entry}
 use Rattle.rules.specs.declared.entry.Row.{Row}
 use Rattle.rules.specs.declared.order.Kind.{Kind}
 use Rattle.rules.specs.declared.order.Order.{Order}
-use Rattle.rules.specs.declared.request.Mode.{Mode}
-use Rattle.rules.specs.declared.request.Mode.the-variants.{Alone, Lead, Standby}
+use Rattle.settings.specs.declared.Mode.{Mode}
+use Rattle.settings.specs.declared.Mode.the-variants.{Alone, Lead, Standby}
 use Rattle.layout.proofs.Cuts.{drop-cut, cut-strike}
 use Rattle.layout.proofs.Held.{holds-cache}
 use Rattle.layout.specs.Picture.{cacheIn, restIn}

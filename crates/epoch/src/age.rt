@@ -11,7 +11,7 @@ ghost use Rattle.table.specs.Asked.{GoodRows};
 ghost use Rattle.table.specs.Told.{listedAt};
 use entries::is_alone;
 use layout::row::entry_at;
-use rules::request::Mode;
+use settings::Mode;
 use table::lookup::dirty_at;
 use table::lookup::recency_row;
 use table::orders::evict_at;

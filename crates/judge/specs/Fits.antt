@@ -9,7 +9,7 @@ use Rattle.settings_words.specs.Picture.{picture}
 use Rattle.settings_words.specs.Words.{flagWord, flagOf}
 use Rattle.rules.specs.Addresses.{elem, twice}
 use Rattle.rules.specs.Limits.{mostRows, mostSize, mostIdle, mostThreshold, countStop}
-use Rattle.layout.specs.Layout.{ones, version, settingsAt, headerWords, rowAt, recencyAt, addressesAt, layoutWords}
+use Rattle.layout.specs.Layout.{ones, version, versionAt, rowCountAt, modeAt, thresholdAt, maximumAt, accessesAt, hitsAt, countAt, settingsAt, headerWords, rowAt, recencyAt, addressesAt, layoutWords}
 use Rattle.layout.specs.Picture.{run, runOf}
 use Rattle.judge.specs.declared.row.RowWords.{RowWords}
 
@@ -164,7 +164,7 @@ PartsOf ws n = PartsFit ws (part (recencyAt n) (addressesAt n) ws) (part (addres
 
 pub record TableFits (ws : List ℕ) : Type 0 where
   pub whole : headerWords ≤ length ws
-  pub opening : OpeningFits (getD ws 0 0) (getD ws 1 0) (getD ws 2 0) (getD ws 3 0)
-  pub long : layoutWords (getD ws 1 0) ≤ length ws
-  pub settings : SettingsFit (drop settingsAt ws) (getD ws 4 0) (getD ws 5 0) (getD ws 6 0) (getD ws 7 0)
-  pub parts : PartsOf ws (getD ws 1 0)
+  pub opening : OpeningFits (getD ws versionAt 0) (getD ws rowCountAt 0) (getD ws modeAt 0) (getD ws thresholdAt 0)
+  pub long : layoutWords (getD ws rowCountAt 0) ≤ length ws
+  pub settings : SettingsFit (drop settingsAt ws) (getD ws maximumAt 0) (getD ws accessesAt 0) (getD ws hitsAt 0) (getD ws countAt 0)
+  pub parts : PartsOf ws (getD ws rowCountAt 0)

@@ -15,7 +15,7 @@ use Rattle.rules.specs.Cache.{Cache}
 use Rattle.rules.specs.Entries.{isListed}
 use Rattle.rules.specs.Limits.{allOnes, mostRows, mostSize, mostReaders, mostIdle, mostThreshold, countStop}
 use Rattle.rules.specs.Rows.{get, passes, isHere}
-use Rattle.layout.specs.Layout.{layoutWords}
+use Rattle.layout.specs.Layout.{rowCountAt, layoutWords}
 use Rattle.layout.specs.Picture.{encode, cacheIn}
 
 -- `&&`, but shut: both sides can be read off it.
@@ -93,4 +93,4 @@ sameWords (x ∷ xs) (y ∷ ys) = eqb x y and sameWords xs ys
 
 -- The cache that the words give is allowed, and the words up to the layout's end are its own.
 unfoldable pub judgeWords : List ℕ → Bool
-judgeWords ws = isAllowed (cacheIn ws) and sameWords (take (layoutWords (getD ws 1 0)) ws) (encode (cacheIn ws) [])
+judgeWords ws = isAllowed (cacheIn ws) and sameWords (take (layoutWords (getD ws rowCountAt 0)) ws) (encode (cacheIn ws) [])

@@ -43,7 +43,9 @@ use layout::ROW_COUNT_AT;
 use layout::SETTINGS_AT;
 use layout::THRESHOLD_AT;
 use layout::VERSION_AT;
-use layout::WIDTH;
+use layout::place::addresses_at;
+use layout::place::layout_words;
+use layout::place::recency_at;
 use rows::rows_allowed;
 use runs::addresses_rise;
 use runs::mark_rows;
@@ -79,9 +81,9 @@ pub fn judge(table: &[u64]) -> bool
     if !opening_allowed(table[VERSION_AT], rows, table[MODE_AT], table[THRESHOLD_AT]) {
         return false;
     }
-    let recency = HEADER + rows * WIDTH;
-    let order = recency + rows;
-    let end = order + rows;
+    let recency = recency_at(rows);
+    let order = addresses_at(rows);
+    let end = layout_words(rows);
     if table.len() < end {
         return false;
     }

@@ -8,7 +8,7 @@ use Rattle.settings.specs.declared.Settings.{Settings}
 use Rattle.settings_words.specs.Words.{settingsWords}
 use Rattle.settings_words.proofs.Flat.{words-length}
 use Rattle.rules.specs.declared.entry.Row.the-variants.{Free}
-use Rattle.rules.specs.declared.request.Mode.{Mode}
+use Rattle.settings.specs.declared.Mode.{Mode}
 use Rattle.rules.specs.Cache.{fresh}
 use Rattle.layout.specs.Layout.{ones, version, headerWords, width, recencyAt, layoutWords, modeWord, settingsAt}
 use Rattle.layout.specs.Leaves.{putSettings, fillPart}

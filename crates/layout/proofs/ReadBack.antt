@@ -17,8 +17,8 @@ use Rattle.rules.specs.declared.entry.Hold.the-variants.{Unheld, Readers, Write
 use Rattle.rules.specs.declared.entry.Hold.{Hold}
 use Rattle.rules.specs.declared.entry.Row.the-variants.{Free, Used}
 use Rattle.rules.specs.declared.entry.Row.{Row}
-use Rattle.rules.specs.declared.request.Mode.the-variants.{Alone, Lead, Standby}
-use Rattle.rules.specs.declared.request.Mode.{Mode}
+use Rattle.settings.specs.declared.Mode.the-variants.{Alone, Lead, Standby}
+use Rattle.settings.specs.declared.Mode.{Mode}
 use Rattle.rules.specs.Allowed.{HoldAllowed, EntryAllowed, Sound, Distinct}
 use Rattle.rules.specs.Cache.{Cache}
 use Rattle.rules.specs.Limits.{mostRows}

@@ -14,7 +14,7 @@ use crate::WIDTH;
 use crate::header::put_settings;
 use crate::place::recency_at;
 use crate::word::mode_word;
-use rules::request::Mode;
+use settings::Mode;
 use settings::Settings;
 
 // Writes v over the n words at `at`.

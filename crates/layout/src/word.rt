@@ -3,7 +3,7 @@ ghost use mathlib.Core.Path.{_≡_};
 ghost use Rattle.layout.specs.Layout.{modeWord, modeOf, holdWord, holdOf, kindWord};
 use rules::entry::Hold;
 use rules::order::Kind;
-use rules::request::Mode;
+use settings::Mode;
 
 // The word of a writer's hold; below it stands the number of readers.
 const WRITER: u64 = 65536;

@@ -17,8 +17,8 @@ use Rattle.settings_words.specs.Words.{flagOf}
 use Rattle.rules.specs.Entries.{if_then_else_}
 use Rattle.rules.specs.Limits.{allOnes}
 use Rattle.rules.specs.declared.request.Access.the-variants.{Reading, Writing}
-use Rattle.rules.specs.declared.request.Mode.{Mode}
-use Rattle.rules.specs.declared.request.Mode.the-variants.{Alone, Lead, Standby}
+use Rattle.settings.specs.declared.Mode.{Mode}
+use Rattle.settings.specs.declared.Mode.the-variants.{Alone, Lead, Standby}
 use Rattle.rules.specs.declared.request.Request.{Request}
 use Rattle.rules.specs.declared.request.Request.the-variants.{Insert, Protect, Release, ReleaseChanged, Pin, Unpin, Resize, Discard, Flush, Sync, Take, Configure}
 use Rattle.numbers.specs.declared.raw.RawCap.{RawCap}

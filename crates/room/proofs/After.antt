@@ -10,8 +10,8 @@ use Rattle.fraction.specs.Fraction.{decimal, hitRate}
 use Rattle.settings.specs.declared.Decrease.{Decrease}
 use Rattle.settings.specs.declared.Decrease.the-variants as decrease
 use Rattle.rules.specs.declared.order.Order.{Order}
-use Rattle.rules.specs.declared.request.Mode.{Mode}
-use Rattle.rules.specs.declared.request.Mode.the-variants.{Alone, Lead, Standby}
+use Rattle.settings.specs.declared.Mode.{Mode}
+use Rattle.settings.specs.declared.Mode.the-variants.{Alone, Lead, Standby}
 use Rattle.room.specs.After.{after}
 use Rattle.rules.specs.Addresses.{nearest}
 use Rattle.rules.specs.Cache.{Work, withMaximum}

@@ -12,8 +12,8 @@ use Rattle.rules.specs.Refusals.{isAlone}
 use Rattle.rules.specs.Cache.{Cache, Work, start}
 use Rattle.rules.specs.Room.{cleanTurn, evictBy, writeDirty, roomIn, makeRoom}
 use Rattle.rules.specs.Rows.{heldBytes}
-use Rattle.rules.specs.declared.request.Mode.{Mode}
-use Rattle.rules.specs.declared.request.Mode.the-variants.{Alone, Lead, Standby}
+use Rattle.settings.specs.declared.Mode.{Mode}
+use Rattle.settings.specs.declared.Mode.the-variants.{Alone, Lead, Standby}
 use Rattle.layout.proofs.Held.{holds-cache, holds-rest}
 use Rattle.layout.specs.Holds.{Good}
 use Rattle.layout.specs.Picture.{cacheIn, restIn}

@@ -3,7 +3,7 @@ use Prim.Native.Nat.{ℕ}
 use mathlib.Core.List.{List, [], _∷_}
 use native.Mathlib.Omega.{arith}
 use Rattle.settings.specs.declared.Settings.{Settings}
-use Rattle.rules.specs.declared.request.Mode.{Mode}
+use Rattle.settings.specs.declared.Mode.{Mode}
 use Rattle.rules.specs.Allowed.{Sound}
 use Rattle.rules.specs.Cache.{Cache, fresh}
 use Rattle.rules.specs.History.{Past, past, next, added, Balanced}

@@ -11,8 +11,8 @@ use Rattle.settings.specs.declared.Settings.{Settings}
 use Rattle.rules.specs.declared.entry.Entry.{Entry}
 use Rattle.rules.specs.declared.entry.Row.{Row}
 use Rattle.rules.specs.declared.entry.Row.the-variants.{Free, Used}
-use Rattle.rules.specs.declared.request.Mode.{Mode}
-use Rattle.rules.specs.declared.request.Mode.the-variants.{Alone, Lead, Standby}
+use Rattle.settings.specs.declared.Mode.{Mode}
+use Rattle.settings.specs.declared.Mode.the-variants.{Alone, Lead, Standby}
 use Rattle.rules.specs.declared.request.Request.{Request}
 use Rattle.rules.specs.declared.request.Request.the-variants.{Flush, Sync, Take}
 use Rattle.rules.specs.Addresses.{elem, twice, someAddress}

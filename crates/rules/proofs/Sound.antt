@@ -13,7 +13,7 @@ use Rattle.rules.specs.declared.entry.Hold.the-variants.{Unheld}
 use Rattle.rules.specs.declared.entry.Row.the-variants.{Free}
 use Rattle.rules.specs.declared.request.Access.{Access}
 use Rattle.rules.specs.declared.request.Access.the-variants.{Reading, Writing}
-use Rattle.rules.specs.declared.request.Mode.{Mode}
+use Rattle.settings.specs.declared.Mode.{Mode}
 use Rattle.rules.specs.Addresses.{elem, strike, twice}
 use Rattle.rules.specs.Allowed.{Sound, Distinct}
 use Rattle.rules.specs.Cache.{Cache, fresh, touch, withRows}

@@ -11,7 +11,7 @@ use Rattle.rules.specs.declared.entry.Row.{Row}
 use Rattle.rules.specs.declared.entry.Row.the-variants.{Free}
 use Rattle.rules.specs.declared.order.Kind.{Kind}
 use Rattle.rules.specs.declared.order.Order.{Order}
-use Rattle.rules.specs.declared.request.Mode.{Mode}
+use Rattle.settings.specs.declared.Mode.{Mode}
 use Rattle.rules.specs.Addresses.{strike}
 use Rattle.rules.specs.Entries.{if_then_else_, isListed}
 use Rattle.rules.specs.Rows.{get, passes, amend, heldBytes}

@@ -7,7 +7,7 @@ use mathlib.Core.List.{List}
 use Rattle.settings.specs.declared.Settings.{Settings}
 use Rattle.rules.specs.declared.answer.Answer.{Answer}
 use Rattle.rules.specs.declared.answer.Answer.the-variants.{Accepted, Refused}
-use Rattle.rules.specs.declared.request.Mode.the-variants.{Lead, Standby}
+use Rattle.settings.specs.declared.Mode.the-variants.{Lead, Standby}
 use Rattle.rules.specs.declared.request.Request.{Request}
 use Rattle.rules.specs.declared.request.Request.the-variants.{Take}
 use Rattle.rules.specs.Cache.{Cache, fresh, due}

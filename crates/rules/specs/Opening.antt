@@ -8,7 +8,7 @@ use Rattle.settings.specs.Validation.{firstBad}
 use Rattle.settings.specs.declared.Settings.{Settings}
 use Rattle.rules.specs.declared.answer.Refusal.{Refusal}
 use Rattle.rules.specs.declared.answer.Refusal.the-variants as refusal
-use Rattle.rules.specs.declared.request.Mode.{Mode}
+use Rattle.settings.specs.declared.Mode.{Mode}
 use Rattle.rules.specs.Limits.{mostRows, mostThreshold}
 use Rattle.rules.specs.Refusals.{Test, firstOf, badField}
 

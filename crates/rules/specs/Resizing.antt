@@ -16,8 +16,8 @@ use Rattle.settings.specs.declared.Increase.the-variants as increase
 use Rattle.settings.specs.declared.Settings.{Settings}
 use Rattle.settings.specs.Validation.{increases, decreases}
 use Rattle.rules.specs.declared.entry.Entry.{Entry}
-use Rattle.rules.specs.declared.request.Mode.{Mode}
-use Rattle.rules.specs.declared.request.Mode.the-variants.{Alone, Lead, Standby}
+use Rattle.settings.specs.declared.Mode.{Mode}
+use Rattle.settings.specs.declared.Mode.the-variants.{Alone, Lead, Standby}
 use Rattle.rules.specs.Cache.{Cache, Work, recencyList, withRows, withMaximum, withCounters, restart, held}
 use Rattle.rules.specs.Entries.{if_then_else_, withIdle}
 use Rattle.rules.specs.Limits.{mostIdle}

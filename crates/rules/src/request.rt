@@ -1,13 +1,6 @@
 // The requests, each with its own particulars.
 use settings::Settings;
 
-// Fixed at opening.
-pub enum Mode {
-    Alone,
-    Lead,
-    Standby,
-}
-
 // What an entry is protected for.
 pub enum Access {
     Reading,

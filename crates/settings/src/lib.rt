@@ -1,4 +1,4 @@
-// The settings of a cache: twelve fields, their default values and their validation.
+// The mode of a cache, and its settings: twelve fields, their default values and their validation.
 //
 // A field's number is its place in the list of document 01, from 1 to 12.
 ghost use mathlib.Core.Path.{_≡_};
@@ -10,6 +10,13 @@ mod validation;
 pub use validation::decreases;
 pub use validation::first_bad_field;
 pub use validation::increases;
+
+// What part a cache plays; fixed at opening.
+pub enum Mode {
+    Alone,
+    Lead,
+    Standby,
+}
 
 // The increase rule.
 pub enum Increase {

@@ -13,8 +13,8 @@ pub mod setup;
 
 use entries::default_threshold;
 use rules::answer::Answer;
-use rules::request::Mode;
 use rules::request::Request;
+use settings::Mode;
 use setup::ORDER_WORDS;
 use setup::Orders;
 use setup::ROWS;

@@ -12,8 +12,8 @@ use Rattle.rules.specs.Opening.{refusalOfOpening}
 use Rattle.rules.specs.Refusals.{firstOf}
 use Rattle.rules.specs.declared.answer.Answer.the-variants.{Refused}
 use Rattle.rules.specs.declared.answer.Refusal.the-variants as refusal
-use Rattle.rules.specs.declared.request.Mode.{Mode}
-use Rattle.rules.specs.declared.request.Mode.the-variants.{Alone}
+use Rattle.settings.specs.declared.Mode.{Mode}
+use Rattle.settings.specs.declared.Mode.the-variants.{Alone}
 use Rattle.cache.proofs.OpenAnswers.{tableRefused}
 use Rattle.cache.specs.Tables.{opened, openedWith, openWords}
 use Rattle.speldervacht.specs.Numbers.{openIn}

@@ -21,7 +21,7 @@ use numbers::verdict::verdict_of;
 use rules::answer::Answer;
 use rules::answer::Refusal;
 use rules::answer::Verdict;
-use rules::request::Mode;
+use settings::Mode;
 use settings::Settings;
 
 // Opens by the mode's number: 0 alone, 1 lead, 2 standby. An unknown mode is refused as a threshold

@@ -17,7 +17,7 @@ use layout::THRESHOLD_AT;
 use layout::header::put_settings;
 use layout::header::settings_at;
 use layout::word::mode_of;
-use rules::request::Mode;
+use settings::Mode;
 use settings::Settings;
 
 pub fn row_count(table: &[u64]) -> usize

@@ -2,7 +2,7 @@
 use mathlib.Core.Path.{_∙_}
 use borrow.Author.Needs.{needs}
 use borrow.Author.Tests.{ne-eqb}
-use Rattle.rules.specs.declared.request.Mode.the-variants.{Alone, Lead, Standby}
+use Rattle.settings.specs.declared.Mode.the-variants.{Alone, Lead, Standby}
 use Rattle.numbers.specs.Meanings.{meaning, modeOfRaw}
 use Rattle.speldervacht.proofs.Opening.{in-mode, in-no-mode}
 use Rattle.speldervacht.proofs.open_in.Statement.{statement}
