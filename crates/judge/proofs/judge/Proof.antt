@@ -29,20 +29,17 @@ opening-allowed-requires c κs = search needs
 returns-2 : tie.Need-returns-2
 returns-2 c = answered (says-no (λ p. denies (c .before .opening-allowed .ensures) (not-true _ (c .if2 .taken)) (p .opening)))
 
-mul-recency : tie.Need-mul-recency
-mul-recency c = let h = c .before .opening-allowed .ensures .sound (not-false _ (c .if2 .left)) in omega arith
+recency-at-requires : tie.Need-recency-at-requires
+recency-at-requires c κs = let h = c .before .opening-allowed .ensures .sound (not-false _ (c .if2 .left)) in omega arith
 
-add-recency : tie.Need-add-recency
-add-recency c = let h = c .before .opening-allowed .ensures .sound (not-false _ (c .if2 .left)) in omega arith
+addresses-at-requires : tie.Need-addresses-at-requires
+addresses-at-requires c κs = let h = c .before .before .opening-allowed .ensures .sound (not-false _ (c .before .if2 .left)) in omega arith
 
-add-order : tie.Need-add-order
-add-order c = let h = c .before .opening-allowed .ensures .sound (not-false _ (c .if2 .left)) in omega arith
-
-add-end : tie.Need-add-end
-add-end c = let h = c .before .opening-allowed .ensures .sound (not-false _ (c .if2 .left)) in omega arith
+layout-words-requires : tie.Need-layout-words-requires
+layout-words-requires c κs = let h = c .before .before .before .opening-allowed .ensures .sound (not-false _ (c .before .before .if2 .left)) in omega arith
 
 returns-3 : tie.Need-returns-3
-returns-3 c = answered (says-no (λ p. let h = p .long in omega arith))
+returns-3 c = answered (says-no (λ p. let h = p .long in omega (arith, c .before .layout-words .ensures)))
 
 sub-settings : tie.Need-sub-settings
 sub-settings c = search needs
@@ -69,7 +66,7 @@ settings-allowed-requires : tie.Need-settings-allowed-requires
 settings-allowed-requires c κs = search needs
 
 returns-4 : tie.Need-returns-4
-returns-4 c = answered (says-no (λ p. denies (from-settings (c .before .before .before .before .before .before .before .before .before .before .before .before .before .before .before .before .args .table .now) (c .before .settings-allowed .ensures)) (not-true _ (c .if4 .taken)) (p .settings)))
+returns-4 c = answered (says-no (λ p. denies (from-settings (c .before .before .before .before .before .before .before .before .before .before .before .before .before .before .before .before .before .before .before .args .table .now) (c .before .settings-allowed .ensures)) (not-true _ (c .if4 .taken)) (p .settings)))
 
 mul-parts-allowed : tie.Need-mul-parts-allowed
 mul-parts-allowed c = search needs
@@ -96,20 +93,20 @@ part-parts-allowed-end-2 : tie.Need-part-parts-allowed-end-2
 part-parts-allowed-end-2 c = search needs
 
 parts-allowed-requires : tie.Need-parts-allowed-requires
-parts-allowed-requires c κs = let h = c .before .before .before .before .before .before .before .before .before .before .before .opening-allowed .ensures .sound (not-false _ (c .before .before .before .before .before .before .before .before .before .before .if2 .left)) in (h .rows, omega arith)
+parts-allowed-requires c κs = let h = c .before .before .before .before .before .before .before .before .before .before .before .before .before .before .opening-allowed .ensures .sound (not-false _ (c .before .before .before .before .before .before .before .before .before .before .before .before .before .if2 .left)) in (h .rows, omega (arith, c .before .before .before .before .before .before .before .before .before .before .layout-words .ensures))
 
 returns-5 : tie.Need-returns-5
 returns-5 c =
-    let h = c .before .before .before .before .before .before .before .before .before .before .before .before .opening-allowed .ensures .sound (not-false _ (c .before .before .before .before .before .before .before .before .before .before .before .if2 .left)) in
+    let h = c .before .before .before .before .before .before .before .before .before .before .before .before .before .before .before .opening-allowed .ensures .sound (not-false _ (c .before .before .before .before .before .before .before .before .before .before .before .before .before .before .if2 .left)) in
     answered (says-by
     (λ q. record {
       whole = omega arith;
       opening = h;
-      long = omega arith;
-      settings = from-settings (c .before .before .before .before .before .before .before .before .before .before .before .before .before .before .before .before .before .before .before .args .table .now) (c .before .before .before .before .settings-allowed .ensures) .sound (not-false _ (c .before .before .before .if4 .left));
+      long = omega (arith, c .before .before .before .before .before .before .before .before .before .before .before .layout-words .ensures);
+      settings = from-settings (c .before .before .before .before .before .before .before .before .before .before .before .before .before .before .before .before .before .before .before .before .before .before .args .table .now) (c .before .before .before .before .settings-allowed .ensures) .sound (not-false _ (c .before .before .before .if4 .left));
       parts = q;
     })
-    (λ p. p .parts) (c .parts-allowed .ensures))
+    (λ p. p .parts) (rw (c .before .before .before .before .before .before .before .before .before .before .before .before .before .recency-at .ensures, c .before .before .before .before .before .before .before .before .before .before .before .before .addresses-at .ensures, c .before .before .before .before .before .before .before .before .before .before .before .layout-words .ensures) at (c .parts-allowed .ensures)))
 
 pub judge-spec : {M : Type 1} → statement M
 judge-spec =
@@ -122,10 +119,9 @@ judge-spec =
     shared-slice-read-opening-allowed-3
     opening-allowed-requires
     returns-2
-    mul-recency
-    add-recency
-    add-order
-    add-end
+    recency-at-requires
+    addresses-at-requires
+    layout-words-requires
     returns-3
     sub-settings
     part-settings-start
