@@ -6,7 +6,7 @@ use lib.ListN.{length}
 use Rattle.rules.specs.Answers.{verdictIn}
 use Rattle.rules.specs.declared.answer.Answer.{Answer}
 use Rattle.rules.specs.declared.answer.Answer.the-variants.{Accepted, Refused}
-use Rattle.cache.proofs.AskedRuns.{ask-step}
+use Rattle.cache.proofs.AskAnswers.{ask-step}
 use Rattle.speldervacht.specs.Meanings.{askedOfRaw}
 use Rattle.speldervacht.specs.Numbers.{answerNumbers, stepAsked, leftNumbers, stepNumbers, verdictNumbers, askAsked, askNumbers}
 use Rattle.speldervacht.specs.declared.raw.RawAnswer.{RawAnswer}
