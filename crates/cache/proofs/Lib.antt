@@ -1,13 +1,5 @@
 pub mod OpenAnswers
 pub mod ReportAnswers
-pub mod AskAnswers
 pub mod StepAnswers
+pub mod AskAnswers
 pub mod Carried
-pub mod Settled
-pub mod Pictured
-pub mod Read
-pub mod Hosts
-pub mod History
-pub mod Runs
-pub mod AskedRuns
-pub mod AskedShown

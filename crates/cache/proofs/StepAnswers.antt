@@ -2,7 +2,7 @@
 use Prim.Native.Nat.{ℕ, suc}
 use mathlib.Core.Bool.{Bool, true, false, not}
 use mathlib.Core.List.{List, [], _∷_, _++_, append-nil, append-assoc}
-use mathlib.Core.Path.{_≡_, sym, ap, _∙_}
+use mathlib.Core.Path.{_≡_, refl, sym, ap, _∙_}
 use native.Mathlib.Omega.{arith}
 use lib.ListN.{length, length-append}
 use borrow.Author.Tests.{not-true, not-false}
@@ -73,6 +73,20 @@ module _ (ws os list : List ℕ) (r : Request) (v : judgeWords ws ≡ true) {out
       (λ e b. outcome-left _ b ∙ rw (b .holds .words))
       (λ x b. outcome-left _ b ∙ rw (b .holds .words, ← sound ws v .1, written-none os))
       a)
+
+-- ---- the answer
+
+module _ (ws os list : List ℕ) (r : Request) (v : judgeWords ws ≡ true) where
+  pub carried : let o = step (cacheIn ws) (asking r list (length os)) in stepWords ws os list r ≡ carriedOut (o .answer) o ws os
+  unfolding stepWords
+  carried = rw v
+
+  answer-of : (a : Answer) (o : Outcome) → carriedOut a o ws os .answer ≡ a
+  answer-of (Accepted n) o = refl
+  answer-of (Refused x) o = refl
+
+  pub same-answer : stepWords ws os list r .answer ≡ step (cacheIn ws) (asking r list (length os)) .answer
+  same-answer = let o = step (cacheIn ws) (asking r list (length os)) in ap (λ x. x .answer) carried ∙ answer-of (o .answer) o
 
 -- ---- by the tests, and by the work
 

@@ -1,5 +1,3 @@
 pub mod Tables
 pub mod Work
-pub mod Hosts
 pub mod Asked
-pub mod History

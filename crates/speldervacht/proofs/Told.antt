@@ -6,7 +6,7 @@ use lib.ListN.{length}
 use Rattle.rules.specs.Answers.{verdictIn}
 use Rattle.rules.specs.declared.answer.Answer.{Answer}
 use Rattle.rules.specs.declared.answer.Answer.the-variants.{Accepted, Refused}
-use Rattle.cache.proofs.AskedRuns.{ask-step}
+use Rattle.cache.proofs.AskAnswers.{ask-step}
 use Rattle.numbers.specs.Meanings.{askedOfRaw}
 use Rattle.numbers.specs.Answers.{answerNumbers, verdictNumbers}
 use Rattle.speldervacht.specs.Numbers.{stepAsked, leftNumbers, stepNumbers, askAsked, askNumbers}

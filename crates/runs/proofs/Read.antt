@@ -20,8 +20,8 @@ use Rattle.rules.specs.declared.order.Order.{Order}
 use Rattle.rules.specs.declared.request.Request.{Request}
 use Rattle.layout.specs.Layout.{kindWord}
 use Rattle.layout.specs.Picture.{orderWords, written}
-use Rattle.cache.specs.History.{evictedIn}
-use Rattle.cache.specs.Hosts.{writesIn}
+use Rattle.runs.specs.History.{evictedIn}
+use Rattle.runs.specs.Hosts.{writesIn}
 
 -- ---- a flush and a sync give writes alone
 

@@ -13,8 +13,8 @@ use Rattle.rules.specs.Entries.{if_then_else_}
 use Rattle.rules.specs.History.{broughtIn, newSize, oldSize, plus, thrownAway}
 use Rattle.layout.specs.Layout.{kindWord}
 use Rattle.layout.specs.Picture.{cacheIn}
-use Rattle.cache.specs.Hosts.{accepts, FloatsOf}
+use Rattle.runs.specs.Hosts.{accepts, FloatsOf}
 use Rattle.cache.specs.Tables.{Left, stepWords, reportWords}
 
 -- A request with the order slice and the list that are lent with it.
 pub record TableCall : Type 0 where

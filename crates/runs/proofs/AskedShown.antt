@@ -22,11 +22,12 @@ use Rattle.settings.specs.declared.Mode.the-variants.{Lead, Standby}
 use Rattle.rules.specs.declared.request.Request.{Request}
 use Rattle.rules.specs.declared.request.Request.the-variants.{Protect, Release, Flush, Take}
 use Rattle.layout.specs.Layout.{layoutWords}
-use Rattle.cache.specs.Asked.{askWords, Outstanding, nothing, doing, taking, Free, AskedRun}
-use Rattle.cache.specs.Hosts.{FloatsOf}
-use Rattle.cache.proofs.Hosts.{list-sent, shared-floats, sends-floats}
-use Rattle.cache.proofs.Pictured.{Pictures, tells, pictures-next, pictures-still, BothPicture, one-goes, both-fresh}
-use Rattle.cache.proofs.Runs.{blank as zeros, with-blank, opens, small-fits}
+use Rattle.cache.specs.Asked.{askWords}
+use Rattle.runs.specs.AskedRuns.{Outstanding, nothing, doing, taking, Free, AskedRun}
+use Rattle.runs.specs.Hosts.{FloatsOf}
+use Rattle.runs.proofs.Hosts.{list-sent, shared-floats, sends-floats}
+use Rattle.runs.proofs.Pictured.{Pictures, tells, pictures-next, pictures-still, BothPicture, one-goes, both-fresh}
+use Rattle.runs.proofs.Runs.{blank as zeros, with-blank, opens, small-fits}
 
 -- tables that picture two caches, after a run by asking
 pub record Played (t : ℕ) (h : Pair Cache) (l : Ledger) (p : Outstanding) : Type 0 where

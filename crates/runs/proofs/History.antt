@@ -20,11 +20,12 @@ use Rattle.settings.specs.declared.Mode.{Mode}
 use Rattle.rules.specs.declared.request.Request.{Request}
 use Rattle.layout.specs.Picture.{cacheIn}
 use Rattle.judge.specs.Verdict.{judgeWords}
-use Rattle.cache.specs.History.{TableCall, evictedIn, TablePast, addedTo, tablePast, Balances, TableBalanced, ReportBalanced}
-use Rattle.cache.specs.Hosts.{accepts}
+use Rattle.runs.specs.History.{TableCall, evictedIn, TablePast, addedTo, tablePast, Balances, TableBalanced, ReportBalanced}
+use Rattle.runs.specs.Hosts.{accepts}
 use Rattle.cache.specs.Tables.{Left, carriedOut, stepWords, openWords}
-use Rattle.cache.proofs.Pictured.{Pictures, ruled, carried, accepts-as, pictures-after, pictures-fresh, reported}
-use Rattle.cache.proofs.Read.{evicted-back}
+use Rattle.cache.proofs.StepAnswers.{carried}
+use Rattle.runs.proofs.Pictured.{Pictures, ruled, accepts-as, pictures-after, pictures-fresh, reported}
+use Rattle.runs.proofs.Read.{evicted-back}
 
 -- ---- one request
 

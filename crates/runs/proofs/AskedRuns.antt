@@ -1,51 +1,24 @@
--- Asking tells what step answers, and a run by asking is a run of demand 3.
+-- A run by asking is a run of demand 3: a change that both said yes to is accepted by both.
 use Prim.Native.Nat.{ℕ}
-use mathlib.Core.Bool.{true, false}
+use mathlib.Core.Bool.{true}
 use mathlib.Core.List.{List}
-use mathlib.Core.Option.{Option, none, some}
-use mathlib.Core.Path.{_≡_, refl, sym, ap, subst, _∙_}
+use mathlib.Core.Path.{_≡_, refl, sym, subst, _∙_}
 use lib.ListN.{length}
 use Rattle.rules.proofs.Sides.{at-other}
-use Rattle.rules.proofs.Tests.{split}
-use Rattle.rules.specs.Cache.{Cache, Work}
-use Rattle.rules.specs.Hosts.{asking, isAccepted}
+use Rattle.rules.specs.Answers.{verdictIn}
+use Rattle.rules.specs.Hosts.{isAccepted}
 use Rattle.rules.specs.Ledger.{Ledger}
-use Rattle.rules.specs.Refusals.{refusalOf}
-use Rattle.rules.specs.Requests.{effect, judged, step}
 use Rattle.rules.specs.Sides.{Side, other, Pair, at, put}
 use Rattle.rules.specs.declared.answer.Answer.the-variants.{Accepted, Refused}
 use Rattle.rules.specs.declared.answer.Answer.{Answer}
-use Rattle.rules.specs.declared.answer.Refusal.{Refusal}
-use Rattle.rules.specs.declared.request.Request.{Request}
-use Rattle.rules.specs.Answers.{verdictOf, verdictIn}
 use Rattle.rules.specs.declared.answer.Verdict.the-variants as verdict
-use Rattle.layout.specs.Picture.{cacheIn}
-use Rattle.judge.specs.Verdict.{judgeWords}
-use Rattle.cache.specs.Asked.{askWords, Outstanding, pendingOf, Free, AskedRun}
-use Rattle.cache.specs.Hosts.{accepts, TableRun, TablesAgree}
+use Rattle.rules.specs.declared.request.Request.{Request}
+use Rattle.cache.proofs.AskAnswers.{ask-step}
+use Rattle.cache.specs.Asked.{askWords}
 use Rattle.cache.specs.Tables.{stepWords}
-use Rattle.cache.proofs.Hosts.{tables-agree, takes-list}
-use Rattle.cache.proofs.Pictured.{same-answer}
-
--- ---- what step would answer
-
-judged-verdict : (o : Option Refusal) (c : Cache) (w : Work) → verdictOf o ≡ verdictIn (judged o c w .answer)
-judged-verdict none c w = refl
-judged-verdict (some r) c w = refl
-
-module _ (ws os list : List ℕ) (r : Request) where
-  passed : judgeWords ws ≡ true → askWords ws (length os) list r ≡ verdictIn (stepWords ws os list r .answer)
-  unfolding askWords step
-  passed v =
-      let call = asking r list (length os) in
-      rw v (judged-verdict (refusalOf (cacheIn ws) call) (cacheIn ws) (effect (cacheIn ws) list r)) ∙ ap verdictIn (sym (same-answer ws os list r v))
-
-  damaged : judgeWords ws ≡ false → askWords ws (length os) list r ≡ verdictIn (stepWords ws os list r .answer)
-  unfolding askWords stepWords
-  damaged v = rw v
-
-  pub ask-step : askWords ws (length os) list r ≡ verdictIn (stepWords ws os list r .answer)
-  ask-step = split (judgeWords ws) passed damaged
+use Rattle.runs.specs.AskedRuns.{Outstanding, pendingOf, Free, AskedRun}
+use Rattle.runs.specs.Hosts.{accepts, TableRun, TablesAgree}
+use Rattle.runs.proofs.Hosts.{tables-agree, takes-list}
 
 accepted-of : (a : Answer) → verdictIn a ≡ verdict.Accepted → isAccepted a ≡ true
 accepted-of (Accepted n) e = refl

@@ -21,10 +21,11 @@ use Rattle.rules.specs.declared.request.Request.{Request}
 use Rattle.rules.specs.declared.request.Request.the-variants.{Take}
 use Rattle.layout.specs.Layout.{rowAt}
 use Rattle.layout.specs.Picture.{entryOf, rowsOf, cacheIn}
-use Rattle.cache.specs.Hosts.{accepts, listIn, FloatsOf, TableRun, dirtyIn, ledgerIn, dueIn, TablesAgree, ReportsAgree}
+use Rattle.runs.specs.Hosts.{accepts, listIn, FloatsOf, TableRun, dirtyIn, ledgerIn, dueIn, TablesAgree, ReportsAgree}
 use Rattle.cache.specs.Tables.{carriedOut, stepWords}
-use Rattle.cache.proofs.Pictured.{Pictures, carried, accepts-as, same-step, tells, pictures-next, pictures-still, open-allowed, BothPicture, one-goes, both-fresh, reported}
-use Rattle.cache.proofs.Read.{sends-writes, writes-back}
+use Rattle.cache.proofs.StepAnswers.{carried}
+use Rattle.runs.proofs.Pictured.{Pictures, accepts-as, same-step, tells, pictures-next, pictures-still, open-allowed, BothPicture, one-goes, both-fresh, reported}
+use Rattle.runs.proofs.Read.{sends-writes, writes-back}
 
 -- ---- the list sent
 

@@ -14,7 +14,7 @@ use Rattle.rules.proofs.Steps.{failed, stepped}
 use Rattle.rules.proofs.Tests.{or-true}
 use Rattle.rules.specs.Allowed.{Allowed}
 use Rattle.rules.specs.Cache.{Cache, fresh}
-use Rattle.rules.specs.Hosts.{accepted, asking}
+use Rattle.rules.specs.Hosts.{isAccepted, accepted, asking}
 use Rattle.rules.specs.Opening.{refusalOfOpening}
 use Rattle.rules.specs.Limits.{mostRows}
 use Rattle.rules.specs.Reports.{reportOf}
@@ -32,9 +32,10 @@ use Rattle.layout.specs.Layout.{layoutWords}
 use Rattle.layout.specs.Picture.{encode, cacheIn}
 use Rattle.judge.proofs.Verdicts.{sound, complete, good}
 use Rattle.judge.specs.Verdict.{judgeWords}
-use Rattle.cache.specs.Hosts.{accepts, FloatsOf}
+use Rattle.runs.specs.Hosts.{accepts, FloatsOf}
 use Rattle.cache.specs.Tables.{carriedOut, stepWords, openedWith, openWords, reportWords}
-use Rattle.cache.proofs.Settled.{step-floats}
+use Rattle.cache.proofs.StepAnswers.{carried, same-answer}
+use Rattle.runs.proofs.Settled.{step-floats}
 
 -- the words pass, and picture the cache
 pub record Pictures (ws : List ℕ) (c : Cache) : Type 0 where
@@ -51,24 +52,13 @@ module _ (ws os list : List ℕ) (r : Request) (v : judgeWords ws ≡ true) wher
   abbrev pub ruled : Outcome
   ruled = step (cacheIn ws) (asking r list (length os))
 
-  pub carried : stepWords ws os list r ≡ carriedOut (ruled .answer) ruled ws os
-  unfolding stepWords
-  carried = rw v
-
-  answer-of : (a : Answer) (o : Outcome) → carriedOut a o ws os .answer ≡ a
-  answer-of (Accepted n) o = refl
-  answer-of (Refused x) o = refl
-
-  pub same-answer : stepWords ws os list r .answer ≡ ruled .answer
-  same-answer = ap (λ x. x .answer) carried ∙ answer-of (ruled .answer) ruled
-
   pub accepts-as : accepts (stepWords ws os list r) ≡ accepted ruled
-  accepts-as = ap (λ (a : Answer). accepted (record { answer = a; cache = ruled .cache; orders = ruled .orders })) same-answer
+  accepts-as = ap isAccepted (same-answer ws os list r v)
 
   pub pictures-after : FloatsOf r → Pictures (stepWords ws os list r .table) (ruled .cache)
   pictures-after f =
       let k = sound ws v .0 in
-      rw carried
+      rw (carried ws os list r v)
       (stepped (cacheIn ws) (asking r list (length os))
       (λ (o : Outcome). Allowed (o .cache) → FloatsFit (o .cache .settings) → Pictures (carriedOut (o .answer) o ws os .table) (o .cache))
       (λ e i j. pictured _ _ i j)
@@ -78,7 +68,7 @@ module _ (ws os list : List ℕ) (r : Request) (v : judgeWords ws ≡ true) wher
 
   pub pictures-refused : accepts (stepWords ws os list r) ≡ false → Pictures (stepWords ws os list r .table) (ruled .cache)
   pictures-refused h =
-      rw carried
+      rw (carried ws os list r v)
       (stepped (cacheIn ws) (asking r list (length os))
       (λ (o : Outcome). accepted o ≡ false → Pictures (carriedOut (o .answer) o ws os .table) (o .cache))
       (λ e i. absurd (true≢false i))

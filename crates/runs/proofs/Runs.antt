@@ -24,10 +24,10 @@ use Rattle.settings.specs.declared.Mode.{Mode}
 use Rattle.rules.specs.declared.request.Request.{Request}
 use Rattle.rules.specs.declared.request.Request.the-variants.{Take}
 use Rattle.layout.specs.Layout.{layoutWords}
-use Rattle.cache.specs.Hosts.{FloatsOf, TableRun}
+use Rattle.runs.specs.Hosts.{FloatsOf, TableRun}
 use Rattle.cache.specs.Tables.{openWords}
-use Rattle.cache.proofs.Hosts.{list-sent, shared-floats, sends-floats}
-use Rattle.cache.proofs.Pictured.{Pictures, tells, pictures-next, pictures-still, BothPicture, one-goes, both-fresh}
+use Rattle.runs.proofs.Hosts.{list-sent, shared-floats, sends-floats}
+use Rattle.runs.proofs.Pictured.{Pictures, tells, pictures-next, pictures-still, BothPicture, one-goes, both-fresh}
 
 -- the floats of a run's settings fit the format
 abbrev pub RunFits : {t : ℕ} {h : Pair Cache} {l : Ledger} {p : Pending} → Run t h l p → Type 0

@@ -22,7 +22,7 @@ use Rattle.rules.specs.Room.{makeRoom}
 use Rattle.rules.specs.Rows.{isHere}
 use Rattle.rules.specs.declared.request.Request.{Request}
 use Rattle.rules.specs.declared.request.Request.the-variants.{Insert, Protect, Release, ReleaseChanged, Pin, Unpin, Resize, Discard, Flush, Sync, Take, Configure}
-use Rattle.cache.specs.Hosts.{FloatsOf}
+use Rattle.runs.specs.Hosts.{FloatsOf}
 
 moves-settings : {may sets : Bool} {w v : Work} → Moves may sets w v → v .cache .settings ≡ w .cache .settings
 moves-settings Moves.done = refl
