@@ -8,7 +8,7 @@ use Rattle.settings.specs.declared.Settings.{Settings}
 use Rattle.settings_words.specs.FloatsFit.{FloatsFit}
 use Rattle.rules.specs.declared.answer.Answer.the-variants.{Accepted}
 use Rattle.rules.specs.declared.answer.Verdict.the-variants as verdict
-use Rattle.rules.specs.declared.request.Mode.the-variants.{Lead, Standby}
+use Rattle.settings.specs.declared.Mode.the-variants.{Lead, Standby}
 use Rattle.rules.specs.declared.request.Request.{Request}
 use Rattle.rules.specs.declared.request.Request.the-variants.{Take}
 use Rattle.rules.specs.Hosts.{Pending}

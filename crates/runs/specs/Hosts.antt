@@ -19,7 +19,7 @@ use Rattle.rules.specs.Entries.{if_then_else_}
 use Rattle.rules.specs.Hosts.{isAccepted, Pending, settled, change, sent, heard}
 use Rattle.rules.specs.Ledger.{Ledger, blank, hearList, Shared, Local, Sends}
 use Rattle.rules.specs.Sides.{Side, other, Pair, at, put}
-use Rattle.layout.specs.Layout.{rowAt, kindWord}
+use Rattle.layout.specs.Layout.{rowCountAt, thresholdAt, countAt, rowAt, kindWord}
 use Rattle.cache.specs.Tables.{Left, stepWords, openWords, reportWords}
 
 -- ---- what a host reads
@@ -86,11 +86,11 @@ dirtyIn (suc n) r ws a =
 
 -- The dirty records in a table's words, and its byte count.
 abbrev pub ledgerIn : List ℕ → Ledger
-ledgerIn ws = record { sizes = dirtyIn (getD ws 1 0) 0 ws; count = getD ws 7 0 }
+ledgerIn ws = record { sizes = dirtyIn (getD ws rowCountAt 0) 0 ws; count = getD ws countAt 0 }
 
 -- Whether its words say that a list is due.
 abbrev pub dueIn : List ℕ → Bool
-dueIn ws = ltb (getD ws 3 0) (getD ws 7 0)
+dueIn ws = ltb (getD ws thresholdAt 0) (getD ws countAt 0)
 
 -- The same dirty records at the same sizes, the same byte count and the same word on whether a list is due, and these
 -- records, sizes and count are what the ledger gives.
