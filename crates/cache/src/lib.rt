@@ -13,3 +13,4 @@ pub use opening::open;
 pub use reporting::Reported;
 pub use reporting::report;
 pub use stepping::step;
+pub use stepping::step_judged;

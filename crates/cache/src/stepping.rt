@@ -1,5 +1,7 @@
 // One request on the cache in a lent table.
 ghost use mathlib.Core.Path.{_≡_};
+ghost use mathlib.Core.Bool.{true};
+ghost use Rattle.judge.specs.Verdict.{judgeWords};
 ghost use Rattle.cache.specs.Tables.{left, stepWords};
 use crate::work::carry_out;
 use judge::judge;
@@ -12,13 +14,11 @@ use rules::answer::Verdict;
 use rules::request::Request;
 use table::header::row_count;
 
-// Does one request: the answer has the number of orders, which stand in the words lent for them.
-pub fn step(table: &mut [u64], orders: &mut [u64], list: &[u64], request: Request) -> Answer
+// The same as step, on a table that passed.
+pub fn step_judged(table: &mut [u64], orders: &mut [u64], list: &[u64], request: Request) -> Answer
+    requires { ⌜ judgeWords (now table) ≡ true ⌝ }
     ensures { λ r. ⌜ left r (now (table .exit)) (now (orders .exit)) ≡ stepWords (now (table .entry)) (now (orders .entry)) (now (list .entry)) request ⌝ }
 {
-    if !judge(table) {
-        return Answer::Refused(Refusal::Table);
-    }
     if let Request::Take = request {
         return take(table, list);
     }
@@ -30,4 +30,14 @@ pub fn step(table: &mut [u64], orders: &mut [u64], list: &[u64], request: Reques
     }
     let given = carry_out(table, orders, found, list, request);
     Answer::Accepted(given as u64)
+}
+
+// Does one request: the answer has the number of orders, which stand in the words lent for them.
+pub fn step(table: &mut [u64], orders: &mut [u64], list: &[u64], request: Request) -> Answer
+    ensures { λ r. ⌜ left r (now (table .exit)) (now (orders .exit)) ≡ stepWords (now (table .entry)) (now (orders .entry)) (now (list .entry)) request ⌝ }
+{
+    if !judge(table) {
+        return Answer::Refused(Refusal::Table);
+    }
+    step_judged(table, orders, list, request)
 }

@@ -10,7 +10,7 @@ use Rattle.layout.specs.Leaves.{putOrder}
 use Rattle.layout.specs.Picture.{orderWords, written}
 use Rattle.layout.proofs.Leaves.{over-next}
 
-length-orders : (orders : List Order) → length (orderWords orders) ≡ length orders * 3
+pub length-orders : (orders : List Order) → length (orderWords orders) ≡ length orders * 3
 unfolding orderWords
 length-orders [] = refl
 length-orders (o ∷ orders) = let ih = length-orders orders in omega arith

@@ -1,6 +1,6 @@
 -- What the numbers that a host gives stand for.
 use Prim.Native.Nat.{ℕ}
-use mathlib.Core.List.{List, [], _∷_}
+use mathlib.Core.List.{List, [], _∷_, _++_}
 use mathlib.Core.Option.{Option, none, some, Option·getD}
 use lib.Dec.{eqb}
 use Rattle.fraction.specs.Fraction.{decimal}
@@ -96,23 +96,26 @@ abbrev pub asked : Option Request → Asked
 asked none = Unknown
 asked (some r) = Known r
 
--- Requests have the kinds 1 to 13.
-unfoldable pub askedOfRaw : RawRequest → Asked
-askedOfRaw w =
-    asked
-    (meaning
-    ((1, Insert (w .address) (w .size))
-    ∷ (2, Protect Reading (w .address) (w .size))
-    ∷ (3, Protect Writing (w .address) (w .size))
-    ∷ (4, Release (w .address))
-    ∷ (5, ReleaseChanged (w .address) (w .size))
-    ∷ (6, Pin (w .address))
-    ∷ (7, Unpin (w .address))
-    ∷ (8, Resize (w .address) (w .size))
-    ∷ (9, Discard (w .address))
+-- The requests that an address and a size are enough for have the kinds 1 to 11.
+abbrev pub plainKinds : ℕ → ℕ → List (ℕ × Request)
+plainKinds a s =
+    (1, Insert a s)
+    ∷ (2, Protect Reading a s)
+    ∷ (3, Protect Writing a s)
+    ∷ (4, Release a)
+    ∷ (5, ReleaseChanged a s)
+    ∷ (6, Pin a)
+    ∷ (7, Unpin a)
+    ∷ (8, Resize a s)
+    ∷ (9, Discard a)
     ∷ (10, Flush)
     ∷ (11, Sync)
-    ∷ (12, Take)
-    ∷ (13, Configure (settingsOfRaw (w .settings)))
-    ∷ [])
-    (w .kind))
+    ∷ []
+
+unfoldable pub plainOf : ℕ → ℕ → ℕ → Option Request
+plainOf k a s = meaning (plainKinds a s) k
+
+-- All have the kinds 1 to 13.
+unfoldable pub askedOfRaw : RawRequest → Asked
+askedOfRaw w =
+    asked (meaning (plainKinds (w .address) (w .size) ++ (12, Take) ∷ (13, Configure (settingsOfRaw (w .settings))) ∷ []) (w .kind))

@@ -70,6 +70,14 @@ pub struct RawAnswer {
     pub orders: u64,
 }
 
+// struct speldervacht_batched
+#[repr(C)]
+pub struct RawBatched {
+    pub number: u64,
+    pub done: u64,
+    pub orders: u64,
+}
+
 // struct speldervacht_verdict
 #[repr(C)]
 pub struct RawVerdict {

@@ -1,6 +1,6 @@
 // The request that numbers stand for.
 ghost use mathlib.Core.Path.{_≡_};
-ghost use Rattle.numbers.specs.Meanings.{askedOfRaw};
+ghost use Rattle.numbers.specs.Meanings.{asked, plainOf, askedOfRaw};
 use crate::raw::RawRequest;
 use crate::setting::settings_of;
 use rules::request::Access;
@@ -12,13 +12,10 @@ pub enum Asked {
     Unknown,
 }
 
-pub fn request_of(w: RawRequest) -> Asked
-    ensures { λ r. ⌜ r ≡ askedOfRaw w ⌝ }
+// The request that a kind, an address and a size are enough for.
+pub fn plain_request(kind: u64, address: u64, size: u64) -> Asked
+    ensures { λ r. ⌜ r ≡ asked (plainOf kind address size) ⌝ }
 {
-    let kind = w.kind;
-    let address = w.address;
-    let size = w.size;
-    let settings = w.settings;
     match kind {
         1 => Asked::Known(Request::Insert { address, size }),
         2 => Asked::Known(Request::Protect {
@@ -39,8 +36,18 @@ pub fn request_of(w: RawRequest) -> Asked
         9 => Asked::Known(Request::Discard { address }),
         10 => Asked::Known(Request::Flush),
         11 => Asked::Known(Request::Sync),
+        _ => Asked::Unknown,
+    }
+}
+
+pub fn request_of(w: RawRequest) -> Asked
+    ensures { λ r. ⌜ r ≡ askedOfRaw w ⌝ }
+{
+    let kind = w.kind;
+    let settings = w.settings;
+    match kind {
         12 => Asked::Known(Request::Take),
         13 => Asked::Known(Request::Configure(settings_of(settings))),
-        _ => Asked::Unknown,
+        _ => plain_request(kind, w.address, w.size),
     }
 }

@@ -1,10 +1,11 @@
--- The four functions over numbers: what each answers and leaves, on any input.
+-- The five functions over numbers: what each answers and leaves, on any input.
 use Prim.Native.Nat.{ℕ}
 use mathlib.Core.List.{List}
 use mathlib.Core.Option.{Option, Option·getD}
 use lib.Dec.{leb}
 use lib.ListN.{length}
 use Rattle.settings.specs.declared.Settings.{Settings}
+use Rattle.rules.specs.Answers.{verdictNumber}
 use Rattle.rules.specs.Cache.{fresh}
 use Rattle.rules.specs.Entries.{if_then_else_}
 use Rattle.rules.specs.Opening.{refusalOfOpening}
@@ -18,11 +19,14 @@ use Rattle.settings.specs.declared.Mode.{Mode}
 use Rattle.settings.specs.declared.Mode.the-variants.{Alone}
 use Rattle.layout.specs.Layout.{layoutWords}
 use Rattle.judge.specs.Verdict.{judgeWords}
+use Rattle.batch.specs.Batch.{After, batchWords}
+use Rattle.batch.specs.declared.Batched.{Batched}
 use Rattle.cache.specs.Asked.{askWords}
 use Rattle.cache.specs.Tables.{Left, left, stepWords, Opened, openedWith, reportWords}
 use Rattle.numbers.specs.Answers.{answerNumbers, verdictNumbers, figureNumbers}
 use Rattle.numbers.specs.Meanings.{modeOfRaw, settingsOfRaw, askedOfRaw}
 use Rattle.numbers.specs.declared.raw.RawAnswer.{RawAnswer}
+use Rattle.numbers.specs.declared.raw.RawBatched.{RawBatched}
 use Rattle.numbers.specs.declared.raw.RawFigures.{RawFigures}
 use Rattle.numbers.specs.declared.raw.RawRequest.{RawRequest}
 use Rattle.numbers.specs.declared.raw.RawSettings.{RawSettings}
@@ -77,6 +81,29 @@ leftNumbers x = afterStep (answerNumbers (x .answer)) (x .table) (x .orders)
 
 unfoldable pub stepNumbers : List ℕ → List ℕ → List ℕ → RawRequest → AfterStep
 stepNumbers table orders list w = leftNumbers (stepAsked table orders list (askedOfRaw w))
+
+-- ---- a batch
+
+-- The answer, and the words of the table, of the order slice and of the answer slice after it.
+pub record AfterBatch : Type 0 where
+  pub answer : RawBatched
+  pub table : List ℕ
+  pub orders : List ℕ
+  pub answers : List ℕ
+
+abbrev pub afterBatch : RawBatched → List ℕ → List ℕ → List ℕ → AfterBatch
+afterBatch b table orders answers = record { answer = b; table = table; orders = orders; answers = answers }
+
+-- In document 01's numbering: 0 if every request was answered.
+abbrev pub batchedNumbers : Batched → RawBatched
+batchedNumbers b = record { number = verdictNumber (b .verdict); done = b .done; orders = b .orders }
+
+abbrev pub afterNumbers : After → AfterBatch
+afterNumbers x = afterBatch (batchedNumbers (x .batched)) (x .table) (x .orders) (x .answers)
+
+-- By `batchWords` of crate batch.
+unfoldable pub batchNumbers : List ℕ → List ℕ → List ℕ → List ℕ → AfterBatch
+batchNumbers table orders requests answers = afterNumbers (batchWords table orders requests answers)
 
 -- ---- asking
 

@@ -1,15 +1,18 @@
-// The cache for C: four functions, which include/speldervacht.h declares and explains.
+// The cache for C: five functions, which include/speldervacht.h declares and explains.
 //
-// The host lends the table, the words for orders and the list, each as a pointer and a length. All
+// The host lends the table, the words for orders, the list, and a batch's requests and answers, each as a pointer and a length. All
 // else is numbers and structs of numbers. Each function answers whatever the numbers and words are.
 ghost use mathlib.Core.Path.{_≡_};
 ghost use Rattle.cache.specs.Tables.{opened};
 ghost use Rattle.numbers.specs.Meanings.{modeOfRaw};
-ghost use Rattle.speldervacht.specs.Numbers.{openIn, afterOpen, openNumbers, unknownRefusal, afterStep, stepNumbers, askNumbers, reportNumbers};
+ghost use Rattle.speldervacht.specs.Numbers.{openIn, afterOpen, openNumbers, unknownRefusal, afterStep, stepNumbers, batchedNumbers, afterBatch, batchNumbers, askNumbers, reportNumbers};
+use batch::Batched;
+use batch::batch;
 use judge::judge;
 use numbers::answer::answer_of;
 use numbers::figures::figures_of;
 use numbers::raw::RawAnswer;
+use numbers::raw::RawBatched;
 use numbers::raw::RawFigures;
 use numbers::raw::RawRequest;
 use numbers::raw::RawSettings;
@@ -75,6 +78,31 @@ pub extern "C" fn speldervacht_step(
         Asked::Known(known) => answer_of(cache::step(table, orders, list, known)),
         Asked::Unknown => answer_of(Answer::Refused(unknown_refusal(table))),
     }
+}
+
+fn batched_of(b: Batched) -> RawBatched
+    ensures { λ r. ⌜ r ≡ batchedNumbers b ⌝ }
+{
+    let verdict = b.verdict;
+    let told = verdict_of(verdict);
+    RawBatched {
+        number: told.number,
+        done: b.done as u64,
+        orders: b.orders as u64,
+    }
+}
+
+// Does many requests on the cache in the table, which is judged once.
+#[no_mangle]
+pub extern "C" fn speldervacht_batch(
+    table: &mut [u64],
+    orders: &mut [u64],
+    requests: &[u64],
+    answers: &mut [u64],
+) -> RawBatched
+    ensures { λ r. ⌜ afterBatch r (now (table .exit)) (now (orders .exit)) (now (answers .exit)) ≡ batchNumbers (now (table .entry)) (now (orders .entry)) (now (requests .entry)) (now (answers .entry)) ⌝ }
+{
+    batched_of(batch(table, orders, requests, answers))
 }
 
 // Tells what speldervacht_step would answer to a request, with so many order words lent for it.

@@ -1,0 +1,102 @@
+// Many requests on one table, which is judged once.
+//
+// A request is three words: kind, address and size, numbered as in include/speldervacht.h. Its answer is two: the number, and how many
+// orders it gave. Orders stand one request's after the other's. Take and configure, which need more, are not done in a batch.
+ghost use mathlib.Core.Bool.{true};
+ghost use mathlib.Core.Path.{_≡_};
+ghost use Prim.Native.Nat.{_≤_};
+ghost use lib.ListN.{length, getD};
+ghost use Rattle.cache.specs.Tables.{left};
+ghost use Rattle.judge.specs.Verdict.{judgeWords};
+ghost use Rattle.numbers.specs.Meanings.{plainOf};
+ghost use Rattle.batch.specs.Batch.{after, doneWith, oneByOne, batchWords};
+use cache::step_judged;
+use judge::judge;
+use numbers::answer::answer_of;
+use numbers::request::Asked;
+use numbers::request::plain_request;
+use rules::answer::Answer;
+use rules::answer::Refusal;
+use rules::answer::Verdict;
+
+// The number of the refusal for too few order words.
+const FEW_WORDS: u64 = 2;
+
+// What a batch answers.
+pub struct Batched {
+    // Accepted if every request was answered; else why the first that was not was not begun.
+    pub verdict: Verdict,
+    // How many requests were answered.
+    pub done: usize,
+    // How many orders they gave.
+    pub orders: usize,
+}
+
+// The request in the first three words, on a table that passed.
+fn one(table: &mut [u64], orders: &mut [u64], words: &[u64]) -> Answer
+    requires { ⌜ (judgeWords (now table) ≡ true) × (3 ≤ length (now words)) ⌝ }
+    ensures { λ r. ⌜ left r (now (table .exit)) (now (orders .exit)) ≡ doneWith (plainOf (getD (now (words .entry)) 0 0) (getD (now (words .entry)) 1 0) (getD (now (words .entry)) 2 0)) (now (table .entry)) (now (orders .entry)) ⌝ }
+{
+    match plain_request(words[0], words[1], words[2]) {
+        Asked::Known(request) => step_judged(table, orders, &words[0..0], request),
+        Asked::Unknown => Answer::Refused(Refusal::Mode),
+    }
+}
+
+// One request after another, on a table that passed.
+fn one_by_one(
+    table: &mut [u64],
+    orders: &mut [u64],
+    requests: &[u64],
+    answers: &mut [u64],
+) -> Batched
+    requires { ⌜ judgeWords (now table) ≡ true ⌝ }
+    ensures { λ r. ⌜ after r (now (table .exit)) (now (orders .exit)) (now (answers .exit)) ≡ oneByOne (now (requests .entry)) (now (table .entry)) (now (orders .entry)) (now (answers .entry)) ⌝ }
+{
+    let mut done: usize = 0;
+    let mut given: usize = 0;
+    let verdict = loop {
+        let from = done * 3;
+        if requests.len() < from + 3 {
+            break Verdict::Accepted;
+        }
+        let to = done * 2;
+        if answers.len() < to + 2 {
+            break Verdict::Refused(Refusal::OrderWords);
+        }
+        let free = given * 3;
+        let told = answer_of(one(table, &mut orders[free..], &requests[from..]));
+        if told.number == FEW_WORDS {
+            break Verdict::Refused(Refusal::OrderWords);
+        }
+        answers[to] = told.number;
+        answers[to + 1] = told.orders;
+        given += told.orders as usize;
+        done += 1;
+    };
+    Batched {
+        verdict,
+        done,
+        orders: given,
+    }
+}
+
+// Does the requests in turn, each with the order words that are left. It stops before the first for which too few words are left, for
+// orders or for its answer.
+pub fn batch(
+    table: &mut [u64],
+    orders: &mut [u64],
+    requests: &[u64],
+    answers: &mut [u64],
+) -> Batched
+    ensures { λ r. ⌜ after r (now (table .exit)) (now (orders .exit)) (now (answers .exit)) ≡ batchWords (now (table .entry)) (now (orders .entry)) (now (requests .entry)) (now (answers .entry)) ⌝ }
+{
+    if !judge(table) {
+        return Batched {
+            verdict: Verdict::Refused(Refusal::Table),
+            done: 0,
+            orders: 0,
+        };
+    }
+    one_by_one(table, orders, requests, answers)
+}

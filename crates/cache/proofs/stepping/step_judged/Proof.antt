@@ -1,0 +1,91 @@
+-- Judging, the tests and the work are each told by their own function.
+use mathlib.Core.List.{[], _∷_}
+use mathlib.Core.Path.{sym, ap, _∙_}
+use types.Run.{miss}
+use Rattle.judge.proofs.Verdicts.{good}
+use Rattle.cache.proofs.StepAnswers.{step-left, step-not, not-refused, step-did}
+use Rattle.cache.specs.Tables.{stepWords}
+use borrow.Author.Needs.{needs}
+use Rattle.cache.proofs.stepping.step_judged.Statement.{statement}
+use Rattle.cache.proofs.stepping.step_judged.Tie as tie
+
+enum-told : tie.Need-enum-told
+enum-told c = search needs
+
+take-requires : tie.Need-take-requires
+take-requires c κs =
+    let s = c@start in
+    good (s .args .table .now) (c@start .pre)
+
+same-length : tie.Need-same-length
+same-length c = search needs
+
+returns : tie.Need-returns
+returns c =
+    let s = c@start in
+    let ws = s .args .table .now in
+    let os = s .args .orders .now in
+    let list = s .args .list .now in
+    step-left ws os list _ (c@start .pre) (c@take .ensures os) ∙ ap (stepWords ws os list) (sym (c@enum-told .given .1))
+
+row-count-requires : tie.Need-row-count-requires
+row-count-requires c κs = good (c@start .args .table .now) (c@start .pre)
+
+find-named-requires : tie.Need-find-named-requires
+find-named-requires c κs = record { good = good (c@start .args .table .now) (c@start .pre); size = c@row-count .ensures }
+
+refusal-of-requires : tie.Need-refusal-of-requires
+refusal-of-requires c κs = (record { good = good (c@start .args .table .now) (c@start .pre); size = c@row-count .ensures }, c@find-named .ensures)
+
+enum-known-verdict : tie.Need-enum-known-verdict
+enum-known-verdict c = search needs
+
+same-length-2 : tie.Need-same-length-2
+same-length-2 c = search needs
+
+returns-2 : tie.Need-returns-2
+returns-2 c =
+    let s = c@start in
+    step-not (s .args .table .now) (s .args .orders .now) (s .args .list .now) (s .args .request) (c@start .pre) (c@refusal-of .ensures) _ (c@verdict .given .1)
+
+enum-told-2 : tie.Need-enum-told-2
+enum-told-2 c = search needs
+
+carry-out-requires : tie.Need-carry-out-requires
+carry-out-requires c κs =
+    let s = c@start in (
+      not-refused (s .args .table .now) (s .args .orders .now) (s .args .list .now) (s .args .request) (c@start .pre) (c@refusal-of .ensures) (c@enum-told2 .given .1),
+      (λ e. miss (0 ∷ 1 ∷ 2 ∷ 3 ∷ 4 ∷ 5 ∷ 6 ∷ 7 ∷ 8 ∷ 9 ∷ 11 ∷ []) 10 tt (rw e at (c@match .keys2))),
+      c@find-named .ensures,
+    )
+
+same-length-3 : tie.Need-same-length-3
+same-length-3 c = search needs
+
+same-length-4 : tie.Need-same-length-4
+same-length-4 c = search needs
+
+returns-3 : tie.Need-returns-3
+returns-3 c =
+    let s = c@start in
+    step-did (s .args .table .now) (s .args .orders .now) (s .args .list .now) (s .args .request) (c@start .pre) (c@refusal-of .ensures) (c@enum-told2 .given .1) (c@carry-out .ensures)
+
+pub step-judged-spec : {M : Type 1} → statement M
+step-judged-spec =
+    tie.close
+    (tie.spec
+    enum-told
+    take-requires
+    same-length
+    returns
+    row-count-requires
+    find-named-requires
+    refusal-of-requires
+    enum-known-verdict
+    same-length-2
+    returns-2
+    enum-told-2
+    carry-out-requires
+    same-length-3
+    same-length-4
+    returns-3)
