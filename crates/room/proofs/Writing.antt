@@ -103,13 +103,13 @@ pub wanted-found : (c : Cache) (x maximum held : ℕ) (s : Settings) {unused lea
     → unused ≡ maximum - (held + x) → least ≡ sizeProduct maximum (s .clean) → r ≡ least - unused → r ≡ wantedBytes x c
 wanted-found c x maximum held s m t h u l r = r ∙ ap₂ (λ (p q : ℕ). p - q) (l ∙ ap₂ (λ (n : ℕ) (z : Settings). sizeProduct n (z .clean)) m t) (u ∙ ap₂ (λ (n k : ℕ). n - (k + x)) m h)
 
--- the entry at a place, dirty or clean
-module _ (rows : List Row) (a : ℕ) (e : Entry) (r : get rows a ≡ some e) (bytes : ℕ) where
-  pub less-dirty : e .dirty ≡ true → bytes ≡ bytes - cleanSize rows a
-  less-dirty d = rw (r, d) (omega arith)
+-- what the entry at an address counts, dirty or clean
+module _ (rows : List Row) (a : ℕ) (e : Entry) (r : get rows a ≡ some e) where
+  pub size-dirty : e .dirty ≡ true → 0 ≡ cleanSize rows a
+  size-dirty d = rw (r, d)
 
-  pub less-size : e .dirty ≡ false → bytes - e .size ≡ bytes - cleanSize rows a
-  less-size d = rw (r, d)
+  pub size-clean : e .dirty ≡ false → e .size ≡ cleanSize rows a
+  size-clean d = rw (r, d)
 
 -- ---- what the loop keeps
 

@@ -32,17 +32,17 @@ fn clean_wanted(table: &[u64], size: u64, held: u64) -> u64
     less(fraction::size_product(maximum, s.clean), unused)
 }
 
-// A number of bytes less those of the entry at a place of the recency list, if it is clean.
-fn less_clean(table: &[u64], rows: usize, pos: usize, bytes: u64) -> u64
+// The size of the entry at a place of the recency list if it is clean, else 0.
+fn clean_size(table: &[u64], rows: usize, pos: usize) -> u64
     requires { ⌜ GoodRows (now table) rows × (pos < length (cacheIn (now table) .recency)) ⌝ }
-    ensures { λ r. ⌜ r ≡ bytes - cleanSize (cacheIn (now (table .entry)) .rows) (listedAt (now (table .entry)) pos) ⌝ }
+    ensures { λ r. ⌜ r ≡ cleanSize (cacheIn (now (table .entry)) .rows) (listedAt (now (table .entry)) pos) ⌝ }
 {
     let row = recency_row(table, rows, pos);
     let e = entry_at(table, row);
     if e.dirty {
-        return bytes;
+        return 0;
     }
-    less(bytes, e.size)
+    e.size
 }
 
 // How many of the bytes wanted the clean entries of the recency list lack. It looks no further than to enough of them.
@@ -54,10 +54,11 @@ fn clean_missing(table: &[u64], rows: usize, wanted: u64) -> u64
     let mut left = wanted;
     let mut pos: usize = 0;
     while pos < listed {
-        if left == 0 {
+        let size = clean_size(table, rows, pos);
+        if left <= size {
             return 0;
         }
-        left = less_clean(table, rows, pos, left);
+        left -= size;
         pos += 1;
     }
     left

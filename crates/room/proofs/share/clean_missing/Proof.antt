@@ -1,4 +1,4 @@
--- What is left, less the clean bytes from the place reached on, is what is missing in all; where nothing is left, they change nothing.
+-- What is left, less the clean bytes from the place reached on, is what is missing in all; an entry that has all that is left ends it.
 use Prim.Native.Nat.{_≤_, _-_}
 use mathlib.Core.Path.{_≡_}
 use native.Mathlib.Omega.{arith}
@@ -24,11 +24,16 @@ listed-len-requires c κs = search needs
 loop-holds : tie.Need-loop-holds Inv-loop μ-loop
 loop-holds c = (search needs, c .listed-len .ensures, omega arith)
 
-returns : tie.Need-returns Inv-loop μ-loop
-returns c = omega arith
+clean-size-requires : tie.Need-clean-size-requires Inv-loop μ-loop
+clean-size-requires c κs = search needs
 
-less-clean-requires : tie.Need-less-clean-requires Inv-loop μ-loop
-less-clean-requires c κs = search needs
+returns : tie.Need-returns Inv-loop μ-loop
+returns c =
+    let t = c .before .before .before .before .before .before .args .table .now in
+    omega (arith, clean-next (cacheIn t .recency) (c .before .before .before .loop .pos) (cacheIn t .rows) (omega arith), c .before .clean-size .ensures)
+
+sub-left : tie.Need-sub-left Inv-loop μ-loop
+sub-left c = search needs
 
 add-pos : tie.Need-add-pos Inv-loop μ-loop
 add-pos c = search needs
@@ -39,7 +44,7 @@ loop-less c = search needs
 loop-again : tie.Need-loop-again Inv-loop μ-loop
 loop-again c =
     let t = c .before .before .before .before .before .before .args .table .now in
-    (search needs, search needs, omega (arith, clean-next (cacheIn t .recency) (c .before .before .before .loop .pos) (cacheIn t .rows) (omega arith), c .less-clean .ensures))
+    (search needs, search needs, omega (arith, clean-next (cacheIn t .recency) (c .before .before .before .loop .pos) (cacheIn t .rows) (omega arith), c .before .clean-size .ensures))
 
 returns-2 : tie.Need-returns-2 Inv-loop μ-loop
 returns-2 c =
@@ -54,8 +59,9 @@ clean-missing-spec =
     μ-loop
     listed-len-requires
     loop-holds
+    clean-size-requires
     returns
-    less-clean-requires
+    sub-left
     add-pos
     loop-less
     loop-again
