@@ -1,5 +1,5 @@
 #!/usr/bin/env bash
-# Builds the proved library and the benchmark beside it, and runs both in one process.
+# Builds the proved function and the benchmark beside it, and runs both in one process.
 # usage, in the project's root:  bench/judging.sh
 set -eu
 cd "$(dirname "$0")/.."
