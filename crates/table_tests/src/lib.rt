@@ -20,8 +20,7 @@ use settings::first_bad_field;
 use table::header::mode;
 use table::search::any_held;
 use taken_list::MOST_ROWS;
-use taken_list::bad_list;
-use taken_list::names_all_ones;
+use taken_list::judge_list;
 use verdicts::test;
 
 pub fn flush(table: &[u64], rows: usize, lent: usize) -> Verdict
@@ -54,13 +53,10 @@ pub fn take_noting(
     ensures { λ r. ⌜ Noted (cacheIn (now (table .entry))) (now (list .entry)) (now (named .exit)) r ⌝ }
 {
     let mode = mode(table);
-    let v = test(
-        bad_list(table, rows, list, named),
-        Refusal::List,
-        Verdict::Accepted,
-    );
+    let faults = judge_list(table, rows, list, named);
+    let v = test(faults.bad, Refusal::List, Verdict::Accepted);
     let v = test(!is_standby(mode), Refusal::Mode, v);
-    test(names_all_ones(list), Refusal::Address, v)
+    test(faults.ones, Refusal::Address, v)
 }
 
 pub fn take(table: &[u64], rows: usize, list: &[u64]) -> Verdict

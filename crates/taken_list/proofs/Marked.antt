@@ -25,7 +25,7 @@ use Rattle.table.proofs.Told.{number-one, found-at, found-no}
 use Rattle.table.specs.Asked.{RowOf}
 use Rattle.table.specs.Told.{foundIn}
 use Rattle.table.specs.declared.lookup.Found.the-variants.{At, Nothing}
-use Rattle.taken_list.specs.Listed.{badList, dirtyFound, Named, Judged}
+use Rattle.taken_list.specs.Listed.{badList, dirtyFound, Named, JudgedBad}
 
 -- ---- a list walked
 
@@ -177,7 +177,7 @@ seen-set seen row r h =
     (λ q. rw (q, ← eqb-true row r q, getD-set-same seen row true false h) (sym (or-true (getD seen row false))))
     (λ q. rw (q, or-false (getD seen r false)) (getD-set-other seen row r true false (eqb-false r row (swap row r q))))
 
-pub judged-bad : {rows : List Row} {list named : List ℕ} → badList rows list ≡ true → Judged rows list named true
+pub judged-bad : {rows : List Row} {list named : List ℕ} → badList rows list ≡ true → JudgedBad rows list named true
 judged-bad b = record { verdict = sym b; noted = λ e. absurd (false≢true (sym e)) }
 
 module _ {rows : List Row} {list named : List ℕ} {seen : List Bool} {i : ℕ} (k : Marked rows list named seen i) where
@@ -185,7 +185,7 @@ module _ {rows : List Row} {list named : List ℕ} {seen : List Bool} {i : ℕ} 
     whole : list ≡ take i list ++ getD list i 0 ∷ drop (suc i) list
     whole = split-at list i 0 h
 
-    pub bad-absent : dirtyFound rows (getD list i 0) ≡ Nothing → Judged rows list named true
+    pub bad-absent : dirtyFound rows (getD list i 0) ≡ Nothing → JudgedBad rows list named true
     bad-absent e = judged-bad
         (ap (λ (b : Bool). twice list || b)
         (ap (someAddress (λ a. not (dirtyAt rows a))) whole
@@ -199,7 +199,7 @@ module _ {rows : List Row} {list named : List ℕ} {seen : List Bool} {i : ℕ} 
       pub row-low : row < mostRows
       row-low = let l = number-low rows (getD list i 0) (is-row .here) in let n = is-row .number in omega arith
 
-      pub bad-again : getD seen row false ≡ true → Judged rows list named true
+      pub bad-again : getD seen row false ≡ true → JudgedBad rows list named true
       bad-again s =
           let m = elem-row rows (getD list i 0) (take i list) (is-row .here) (k .dirty)
           (ap (λ (x : ℕ). elem x (map (rowNumber rows) (take i list))) (sym (is-row .number)) ∙ sym (k .marks row) ∙ s) in
@@ -250,7 +250,7 @@ module _ {rows : List Row} {list named : List ℕ} {seen : List Bool} {i : ℕ} 
           noted = noted-on;
         }
 
-  pub good-list : length rows ≤ mostRows → length list ≤ i → Judged rows list named false
+  pub good-list : length rows ≤ mostRows → length list ≤ i → JudgedBad rows list named false
   good-list few h =
       let t = take-all i list h in
       let good : badList rows list ≡ false = ap₂ (λ (s u : Bool). s || u) (ap twice (sym t) ∙ k .once) (ap (someAddress (λ a. not (dirtyAt rows a))) (sym t) ∙ k .dirty) in

@@ -5,7 +5,7 @@ ghost use Rattle.rules.specs.Addresses.{elem};
 ghost use Rattle.rules.specs.Limits.{allOnes, mostRows};
 ghost use Rattle.layout.specs.Picture.{addresses, cacheIn};
 ghost use Rattle.table.specs.Asked.{GoodRows};
-ghost use Rattle.taken_list.specs.Listed.{dirtyFound, Judged};
+ghost use Rattle.taken_list.specs.Listed.{dirtyFound, Judged, JudgedBad};
 use entries::bad_address;
 use table::lookup::Found;
 use table::lookup::entry_of;
@@ -14,8 +14,16 @@ use table::runs::used_len;
 
 pub const MOST_ROWS: usize = 4096;
 
+// What the tests ask of a list.
+pub struct Faults {
+    // It names all ones.
+    pub ones: bool,
+    // It names an address twice, or one not dirty here.
+    pub bad: bool,
+}
+
 // Whether the list names all ones.
-pub fn names_all_ones(list: &[u64]) -> bool
+fn names_all_ones(list: &[u64]) -> bool
     ensures { λ r. ⌜ r ≡ elem allOnes (now (list .entry)) ⌝ }
 {
     let mut i: usize = 0;
@@ -49,9 +57,9 @@ fn find_dirty(table: &[u64], rows: usize, n: usize, near: usize, address: u64) -
 
 // Whether the list names an address twice, or one not dirty here; if not, its rows are noted. Each row that it names is marked, and
 // each address is looked for after the one before it.
-pub fn bad_list(table: &[u64], rows: usize, list: &[u64], named: &mut [u16; MOST_ROWS]) -> bool
+fn bad_list(table: &[u64], rows: usize, list: &[u64], named: &mut [u16; MOST_ROWS]) -> bool
     requires { ⌜ GoodRows (now table) rows × (length (now named) ≡ mostRows) ⌝ }
-    ensures { λ r. ⌜ Judged (cacheIn (now (table .entry)) .rows) (now (list .entry)) (now (named .exit)) r ⌝ }
+    ensures { λ r. ⌜ JudgedBad (cacheIn (now (table .entry)) .rows) (now (list .entry)) (now (named .exit)) r ⌝ }
 {
     let n = used_len(table, rows);
     let mut seen = [false; MOST_ROWS];
@@ -71,4 +79,16 @@ pub fn bad_list(table: &[u64], rows: usize, list: &[u64], named: &mut [u16; MOST
         i += 1;
     }
     false
+}
+
+// Judges a list for its tests; if it is not bad, the rows that it names are noted.
+pub fn judge_list(table: &[u64], rows: usize, list: &[u64], named: &mut [u16; MOST_ROWS]) -> Faults
+    requires { ⌜ GoodRows (now table) rows × (length (now named) ≡ mostRows) ⌝ }
+    ensures { λ r. ⌜ Judged (cacheIn (now (table .entry)) .rows) (now (list .entry)) (now (named .exit)) r ⌝ }
+{
+    let bad = bad_list(table, rows, list, named);
+    Faults {
+        ones: names_all_ones(list),
+        bad,
+    }
 }

@@ -1,14 +1,11 @@
--- A list that the tests pass is cleaned in the rows that they noted, and the byte count set to 0.
+-- A list that the tests pass is taken in the rows that they noted.
 use Prim.Native.Nat.{ℕ}
 use mathlib.Core.Path.{refl, sym, _∙_}
-use native.Mathlib.Omega.{arith}
 use lib.ListN.{length, length-replicate}
-use Rattle.rules.specs.Cache.{withCount}
 use Rattle.rules.specs.Hosts.{asking}
 use Rattle.rules.specs.Limits.{mostRows}
 use Rattle.rules.specs.Requests.{effect}
 use Rattle.rules.specs.declared.request.Request.the-variants.{Take}
-use Rattle.layout.proofs.Held.{holds-good, onward}
 use Rattle.layout.specs.Picture.{cacheIn}
 use Rattle.verdicts.proofs.Telling.{matched, verdict-some, verdict-none}
 use Rattle.room.proofs.Answered.{answered-not, answered-done}
@@ -38,11 +35,8 @@ returns c = λ lent.
 enum-told : tie.Need-enum-told
 enum-told c = search needs
 
-clean-each-requires : tie.Need-clean-each-requires
-clean-each-requires c κs = (record { good = c .before .before .before .before .before .before .before .before .before .before .before .pre; size = c .before .before .before .before .before .before .before .row-count .ensures }, c .before .before .before .before .take-noting .ensures .noted (c .before .before .enum-told .given .1))
-
-set-count-requires : tie.Need-set-count-requires
-set-count-requires c κs = (holds-good (c .before .before .before .clean-each .ensures), omega arith)
+take-list-requires : tie.Need-take-list-requires
+take-list-requires c κs = (record { good = c .before .before .before .before .before .before .before .before .before .before .before .pre; size = c .before .before .before .before .before .before .before .row-count .ensures }, c .before .before .before .before .take-noting .ensures .noted (c .before .before .enum-told .given .1))
 
 same-length-2 : tie.Need-same-length-2
 same-length-2 c = search needs
@@ -50,10 +44,10 @@ same-length-2 c = search needs
 returns-2 : tie.Need-returns-2
 unfolding effect
 returns-2 c = λ lent.
-    let s = c .before .before .before .before .before .before .before .before .before .before .before .before .before .before .before .before .before .before in
+    let s = c .before .before .before .before .before .before .before .before .before .before .before .before .before .before in
     let d = cacheIn (s .args .table .now) in
     let call = asking Take (s .args .list .now) (length lent) in
-    answered-done d call (verdict-none _ (sym (matched d (s .args .list .now) (length lent) refl (c .before .before .before .before .before .before .before .before .before .before .before .take-noting .ensures .tells (length lent))) ∙ c .before .before .before .before .before .before .before .before .before .enum-told .given .1)) (did-holds (onward (withCount 0) (c .before .before .before .before .before .before .clean-each .ensures) (c .before .before .set-count .ensures)))
+    answered-done d call (verdict-none _ (sym (matched d (s .args .list .now) (length lent) refl (c .before .before .before .before .before .before .before .take-noting .ensures .tells (length lent))) ∙ c .before .before .before .before .before .enum-told .given .1)) (did-holds (c .before .before .take-list .ensures))
 
 pub take-spec : {M : Type 1} → statement M
 take-spec =
@@ -65,7 +59,6 @@ take-spec =
     same-length
     returns
     enum-told
-    clean-each-requires
-    set-count-requires
+    take-list-requires
     same-length-2
     returns-2)
