@@ -1,0 +1,325 @@
+//! The referee: starts the two hosts, has them play, kills them, and checks after each kill that nothing
+//! is lost that both had.
+
+use crate::course::{Course, Loss, Move, Sample};
+use crate::failure::Failure;
+use crate::journal::Journal;
+use crate::kill::Kill;
+use crate::message::{Figures, Message, Resident};
+use crate::moment::{Moment, Part};
+use crate::play::{self, Action};
+use crate::process::{broken, Heard, Hosts};
+use crate::random::Random;
+use speldervacht::Change;
+use std::fs::File;
+use std::thread::sleep;
+use std::time::{Duration, Instant};
+
+/// A kill at a chosen moment wants so many dirty records.
+const WANTED_DIRTY: u64 = 4;
+
+pub struct Referee {
+    pub hosts: Hosts,
+    /// The place of the lead.
+    pub lead: usize,
+    pair: u64,
+    world: File,
+    pub journal: Journal,
+    pub random: Random,
+    pub course: Course,
+    pub step: u64,
+    began: Instant,
+    /// Figures of the lead, as last sampled.
+    figures: Figures,
+}
+
+impl Referee {
+    /// Starts two hosts over an empty world.
+    pub fn start(world: File, seed: u64) -> Result<Referee, Failure> {
+        let mut referee = Referee {
+            hosts: Hosts::start(&world)?,
+            lead: 0,
+            pair: 0,
+            world,
+            journal: Journal::default(),
+            random: Random::new(seed),
+            course: Course::default(),
+            step: 0,
+            began: Instant::now(),
+            figures: Figures::default(),
+        };
+        referee.begin_pair(0)?;
+        referee.hosts.request(0, &Message::BringIn)?;
+        Ok(referee)
+    }
+
+    /// The host at the place leads a new pair, and the other joins it.
+    fn begin_pair(&mut self, lead: usize) -> Result<Instant, Failure> {
+        self.pair += 1;
+        self.lead = lead;
+        self.hosts.request(lead, &Message::Lead { pair: self.pair })?;
+        let safe = Instant::now();
+        self.hosts.request(1 - lead, &Message::Join { pair: self.pair })?;
+        Ok(safe)
+    }
+
+    fn place_of(&self, part: Part) -> usize {
+        match part {
+            Part::Lead => self.lead,
+            Part::Standby => 1 - self.lead,
+        }
+    }
+
+    // ---- play
+
+    /// One step of random play.
+    pub fn play(&mut self, moves: bool) -> Result<(), Failure> {
+        let action = match play::next(&mut self.random, &self.journal, self.figures.due) {
+            Action::Move if !moves => Action::Flush,
+            action => action,
+        };
+        self.perform(action)
+    }
+
+    /// Has the hosts do something.
+    pub fn perform(&mut self, action: Action) -> Result<(), Failure> {
+        let (place, message) = self.begin(action);
+        let answer = self.hosts.request(place, &message)?;
+        self.done(answer);
+        self.sample()
+    }
+
+    /// Who is to do an action, and what it is told. A change is in flight from now on.
+    fn begin(&mut self, action: Action) -> (usize, Message) {
+        match action {
+            Action::Change(change) => {
+                let kind = match change {
+                    Change::Insert { .. } => 0,
+                    Change::ReleaseChanged { .. } => 1,
+                    Change::Resize { .. } => 2,
+                    Change::Discard { .. } => 3,
+                };
+                self.course.changes[kind] += 1;
+                (self.lead, Message::Play { number: self.journal.begin(change.clone()), change })
+            }
+            Action::Read { place, address, keep, pin } => {
+                self.course.reads += 1;
+                (place, Message::Read { address, keep, pin })
+            }
+            Action::LetGo { place } => (place, Message::LetGo),
+            Action::Flush => (self.lead, Message::Flush),
+            Action::Sync => (self.lead, Message::Sync),
+            Action::Move => (self.lead, Message::Move),
+        }
+    }
+
+    /// What is known once an action was answered.
+    fn done(&mut self, answer: Message) {
+        match answer {
+            Message::Done => self.journal.both_had(),
+            Message::Listed { addresses } => {
+                self.course.lists += 1;
+                self.course.longest_list = self.course.longest_list.max(addresses.len() as u64);
+            }
+            Message::Moved(times) => {
+                self.lead = 1 - self.lead;
+                self.course.moves.push(Move { step: self.step, time: self.began.elapsed(), times });
+            }
+            _ => {}
+        }
+    }
+
+    /// The figures of both hosts after a step.
+    fn sample(&mut self) -> Result<(), Failure> {
+        let mut figures = [Figures::default(); 2];
+        for (place, of_host) in figures.iter_mut().enumerate() {
+            if let Message::Figures(told) = self.hosts.request(place, &Message::Report)? {
+                *of_host = told;
+            }
+        }
+        self.figures = figures[self.lead];
+        let sample = Sample { step: self.step, time: self.began.elapsed(), lead: self.lead, figures };
+        self.course.samples.push(sample);
+        self.step += 1;
+        Ok(())
+    }
+
+    /// Changes until a few records are dirty.
+    pub fn make_dirty(&mut self) -> Result<(), Failure> {
+        while self.figures.records < WANTED_DIRTY {
+            let change = play::change(&mut self.random, &self.journal);
+            self.perform(Action::Change(change))?;
+        }
+        Ok(())
+    }
+
+    // ---- kills
+
+    /// Kills a host: at the moment, or at a random time if there is none. Answers how many kills it took.
+    pub fn kill(&mut self, moment: Option<Moment>, left: u64) -> Result<u64, Failure> {
+        let begun = self.course.losses.len();
+        self.make_dirty()?;
+        let again = left > 1;
+        match moment {
+            Some(moment) if !moment.is_catching_up() => {
+                let after = if moment == Moment::AmidWrites { self.random.below(self.figures.records) } else { 0 };
+                let action = self.action_to(moment);
+                self.kill_amid(action, Kill::At { moment, after }, None)?;
+            }
+            Some(moment) if again => self.kill_at_random(Some(Kill::At { moment, after: 0 }))?,
+            _ => {
+                let then = (again && self.random.once_in(4)).then(|| Kill::at_random(&mut self.random));
+                self.kill_at_random(then)?;
+            }
+        }
+        Ok((self.course.losses.len() - begun) as u64)
+    }
+
+    /// What leads to a moment.
+    fn action_to(&mut self, moment: Moment) -> Action {
+        match moment {
+            Moment::LeadOnly | Moment::Unacknowledged => {
+                Action::Change(play::change(&mut self.random, &self.journal))
+            }
+            Moment::BeforeSwitch | Moment::Switched => Action::Move,
+            _ => Action::Flush,
+        }
+    }
+
+    fn kill_at_random(&mut self, then: Option<Kill>) -> Result<(), Failure> {
+        let kill = Kill::at_random(&mut self.random);
+        let action = match self.random.below(4) {
+            0 => Action::Flush,
+            1 => Action::Move,
+            _ => play::next(&mut self.random, &self.journal, false),
+        };
+        self.kill_amid(action, kill, then)
+    }
+
+    /// Kills a host amid an action, and goes on with the survivor. A second kill may come while the new
+    /// standby catches up.
+    pub fn kill_amid(&mut self, action: Action, kill: Kill, then: Option<Kill>) -> Result<(), Failure> {
+        let amid = action.text();
+        let (place, message) = self.begin(action);
+        let victim = self.strike(place, &message, kill)?;
+        self.recover(victim, kill, amid, then)?;
+        self.sample()
+    }
+
+    /// Has a host do something, and kills the victim amid it. Answers where the victim was.
+    fn strike(&mut self, place: usize, message: &Message, kill: Kill) -> Result<usize, Failure> {
+        let victim = self.place_of(kill.victim());
+        if let Kill::At { moment, after } = kill {
+            self.hosts.request(victim, &Message::Stop { moment, after })?;
+        }
+        self.hosts.send(place, message)?;
+        match kill {
+            Kill::At { moment, .. } => match self.hosts.hear()? {
+                Heard::Said(from, Message::Stopped) if from == victim => {}
+                Heard::Said(_, Message::Refused { number, text }) => return Err(Failure::Refused { number, text }),
+                _ => return Err(broken(&format!("no host stopped {}", moment.text()))),
+            },
+            Kill::Later { delay, .. } => sleep(delay),
+        }
+        self.hosts.kill(victim)?;
+        self.hear_out(place, victim)?;
+        Ok(victim)
+    }
+
+    /// What the victim said before its end, and what the survivor answers if it was to do something.
+    fn hear_out(&mut self, place: usize, victim: usize) -> Result<(), Failure> {
+        let (mut ended, mut answered) = (false, place == victim);
+        while !ended || !answered {
+            match self.hosts.hear()? {
+                Heard::Ended(from) if from == victim => ended = true,
+                Heard::Ended(from) => return Err(broken(&format!("host {} ended by itself", from + 1))),
+                Heard::Said(_, Message::Refused { number, text }) => return Err(Failure::Refused { number, text }),
+                Heard::Said(from, answer) if from == place => {
+                    self.done(answer);
+                    answered = true;
+                }
+                Heard::Said(..) => {}
+            }
+        }
+        Ok(())
+    }
+
+    /// The survivor is checked, leads, and brings in what is dirty there; a new host joins it.
+    fn recover(
+        &mut self,
+        mut victim: usize,
+        mut kill: Kill,
+        mut amid: &str,
+        mut then: Option<Kill>,
+    ) -> Result<(), Failure> {
+        loop {
+            let killed = Instant::now();
+            let survivor = 1 - victim;
+            let (dirty, checked) = self.check_survivor(survivor)?;
+            self.hosts.replace(victim)?;
+            let safe = self.begin_pair(survivor)?.duration_since(killed);
+            self.course.losses.push(Loss {
+                step: self.step,
+                time: self.began.elapsed(),
+                place: victim,
+                part: kill.victim(),
+                moment: kill.text(amid),
+                chosen: matches!(kill, Kill::At { .. }),
+                dirty,
+                checked,
+                safe,
+                recovered: None,
+            });
+            match then.take().filter(|_| dirty > 0) {
+                Some(next) => {
+                    (kill, amid) = (self.amid_catching_up(next, dirty), "catching up");
+                    victim = self.strike(survivor, &Message::BringIn, kill)?;
+                }
+                None => {
+                    self.hosts.request(survivor, &Message::BringIn)?;
+                    self.course.losses.last_mut().map(|loss| loss.recovered = Some(killed.elapsed()));
+                    return Ok(());
+                }
+            }
+        }
+    }
+
+    /// The kill, after a random number of the records that are to be brought in.
+    fn amid_catching_up(&mut self, kill: Kill, records: u64) -> Kill {
+        match kill {
+            Kill::At { moment, .. } => Kill::At { moment, after: self.random.below(records) },
+            later => later,
+        }
+    }
+
+    // ---- checks
+
+    /// Checks what the survivor of a kill has: its dirty records, and the records checked.
+    fn check_survivor(&mut self, survivor: usize) -> Result<(u64, u64), Failure> {
+        let (last, memory) = self.told(survivor)?;
+        self.journal.survived(last);
+        let checked = self.journal.check(survivor, &memory, &self.world)?;
+        self.course.checked += checked;
+        Ok((memory.iter().filter(|record| record.dirty).count() as u64, checked))
+    }
+
+    /// Checks both hosts, as if each were the survivor.
+    pub fn check_both(&mut self) -> Result<(), Failure> {
+        for place in [0, 1] {
+            let (_, memory) = self.told(place)?;
+            self.course.checked += self.journal.check(place, &memory, &self.world)?;
+        }
+        Ok(())
+    }
+
+    fn told(&mut self, place: usize) -> Result<(u64, Vec<Resident>), Failure> {
+        match self.hosts.request(place, &Message::Tell)? {
+            Message::Told { last, records } => Ok((last, records)),
+            other => Err(broken(&format!("host {} tells {other:?}", place + 1))),
+        }
+    }
+
+    pub fn elapsed(&self) -> Duration {
+        self.began.elapsed()
+    }
+}
