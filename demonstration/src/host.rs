@@ -11,9 +11,7 @@ mod store;
 use crate::message::{Figures, Message, Resident};
 use crate::mistake::Mistake;
 use control::Control;
-use speldervacht::{
-    Cache, Decrease, Flash, Host, HostError, Increase, List, Mode, ReadGuard, Refusal, Settings,
-};
+use speldervacht::{Cache, Decrease, Flash, Host, HostError, Increase, List, Mode, ReadGuard, Refusal, Settings};
 use std::collections::{BTreeMap, BTreeSet, VecDeque};
 use std::error::Error;
 use std::fs::File;
@@ -53,7 +51,10 @@ fn rows_and_settings(place: usize) -> (usize, Settings) {
 enum Event {
     Referee(Message),
     /// From the other host of this pair; none if its socket has closed.
-    Other { pair: u64, message: Option<Message> },
+    Other {
+        pair: u64,
+        message: Option<Message>,
+    },
 }
 
 /// Why a host did not do what it was told.
@@ -201,7 +202,7 @@ impl HostProcess {
             Message::Tell => return Ok(self.told()),
             Message::Stop { moment, after } => self.control.stop_later(moment, after),
             Message::Err { mistake } => self.control.err_later(mistake),
-            Message::Trace => self.control.trace(),
+            Message::Trace { on } => self.control.trace(on),
             other => return Err(self.refused("a message", 0, format!("{other:?} is not for a host"))),
         }
         Ok(Message::Done)
@@ -262,7 +263,7 @@ impl HostProcess {
     fn help(&mut self, refusal: Refusal) -> Result<bool, Failure> {
         match refusal {
             Refusal::NotInCache { address } | Refusal::NotHeld { address } => {
-                self.until_done("a hold", |host| host.protect_for_writing(address))?;
+                self.until_done(&format!("a hold on record {address}"), |host| host.protect_for_writing(address))?;
                 self.writing = Some(address);
             }
             Refusal::Held { address, .. } if self.readers.iter().any(|reader| reader.address() == address) => {
@@ -333,7 +334,8 @@ impl HostProcess {
     }
 
     fn told(&self) -> Message {
-        let resident = |address: u64, dirty: bool, bytes: &Arc<[u8]>| Resident { address, dirty, bytes: bytes.to_vec() };
+        let resident =
+            |address: u64, dirty: bool, bytes: &Arc<[u8]>| Resident { address, dirty, bytes: bytes.to_vec() };
         let waiting = self.waiting.iter().map(|(address, bytes)| resident(*address, true, bytes));
         let in_cache = self.host.cache().entries().filter_map(|entry| {
             let bytes = self.host.record(entry.address)?;

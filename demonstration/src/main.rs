@@ -2,6 +2,7 @@
 
 mod arguments;
 mod course;
+mod csv;
 mod failure;
 mod frame;
 mod host;
@@ -10,13 +11,16 @@ mod kill;
 mod message;
 mod mistake;
 mod moment;
+mod picture;
 mod play;
 mod process;
+mod provoke;
 mod random;
 mod referee;
 mod run;
 mod socket;
 mod summary;
+mod trace;
 mod world;
 
 use std::process::ExitCode;

@@ -6,6 +6,7 @@ use crate::moment::Moment;
 use speldervacht::Change;
 use std::io::{self, Write};
 use std::os::unix::net::UnixStream;
+use std::time::{SystemTime, UNIX_EPOCH};
 
 /// A record in a host's memory.
 #[derive(Clone, Debug, PartialEq, Eq)]
@@ -40,15 +41,26 @@ pub struct MoveTimes {
 pub enum Message {
     // ---- from the referee
     /// Writes what is dirty here, opens a fresh lead's cache, and listens for the standby of this pair.
-    Lead { pair: u64 },
+    Lead {
+        pair: u64,
+    },
     /// Opens a fresh standby's cache and connects to the lead of this pair.
-    Join { pair: u64 },
+    Join {
+        pair: u64,
+    },
     /// Brings in what was dirty when `Lead` came.
     BringIn,
     /// A change of the play, by number.
-    Play { number: u64, change: Change },
+    Play {
+        number: u64,
+        change: Change,
+    },
     /// Reads a record; holds it for a while, or pins it.
-    Read { address: u64, keep: bool, pin: bool },
+    Read {
+        address: u64,
+        keep: bool,
+        pin: bool,
+    },
     /// The longest reader and the first pin go.
     LetGo,
     /// Writes, and sends the list.
@@ -60,38 +72,63 @@ pub enum Message {
     /// Tells all records in memory.
     Tell,
     /// Stops at this moment, after so many.
-    Stop { moment: Moment, after: u64 },
+    Stop {
+        moment: Moment,
+        after: u64,
+    },
     /// Makes this mistake once, or from now on.
-    Err { mistake: Mistake },
-    /// Notes what is done from now on.
-    Trace,
+    Err {
+        mistake: Mistake,
+    },
+    /// Notes what is done from now on, or no more.
+    Trace {
+        on: bool,
+    },
 
     // ---- to the referee
     Figures(Figures),
     Moved(MoveTimes),
     /// The addresses of a list that was taken.
-    Listed { addresses: Vec<u64> },
+    Listed {
+        addresses: Vec<u64>,
+    },
     /// The last change of the play that was done here, and the records in memory.
-    Told { last: u64, records: Vec<Resident> },
+    Told {
+        last: u64,
+        records: Vec<Resident>,
+    },
     /// The other host is gone.
     Alone,
     /// Stopped at the moment that was named.
     Stopped,
     /// What was done, and when, in microseconds since 1970.
-    Note { time: u64, text: String },
+    Note {
+        time: u64,
+        text: String,
+    },
 
     // ---- from the lead to the standby
-    Ask { change: Change },
+    Ask {
+        change: Change,
+    },
     /// A change that both said yes to. Number 0 is a record that is brought in.
-    Do { number: u64, change: Change },
-    List { addresses: Vec<u64> },
+    Do {
+        number: u64,
+        change: Change,
+    },
+    List {
+        addresses: Vec<u64>,
+    },
     /// The standby leads from now on.
     Switch,
 
     // ---- answers to any of them
     Done,
     /// A refusal of the library: its number, and who refuses what in words.
-    Refused { number: u64, text: String },
+    Refused {
+        number: u64,
+        text: String,
+    },
 }
 
 impl Message {
@@ -115,7 +152,7 @@ impl Message {
             Message::Tell => words(&mut out, &[11]),
             Message::Stop { moment, after } => words(&mut out, &[12, *moment as u64, *after]),
             Message::Err { mistake } => words(&mut out, &[13, *mistake as u64]),
-            Message::Trace => words(&mut out, &[14]),
+            Message::Trace { on } => words(&mut out, &[14, u64::from(*on)]),
             Message::Figures(figures) => {
                 let Figures { dirty, held, maximum, count, due, records } = *figures;
                 words(&mut out, &[15, dirty, held, maximum, count, u64::from(due), records]);
@@ -177,7 +214,7 @@ impl Message {
             11 => Message::Tell,
             12 => Message::Stop { moment: nth(&Moment::ALL, from.word()?)?, after: from.word()? },
             13 => Message::Err { mistake: nth(&Mistake::ALL, from.word()?)? },
-            14 => Message::Trace,
+            14 => Message::Trace { on: from.word()? != 0 },
             15 => Message::Figures(Figures {
                 dirty: from.word()?,
                 held: from.word()?,
@@ -212,6 +249,11 @@ impl Message {
     pub fn receive(mut stream: &UnixStream) -> io::Result<Message> {
         Message::of(&read_frame(&mut stream)?)
     }
+}
+
+/// Microseconds since 1970, which all processes have in common.
+pub fn now() -> u64 {
+    SystemTime::now().duration_since(UNIX_EPOCH).map_or(0, |time| time.as_micros() as u64)
 }
 
 fn words(out: &mut Writer, words: &[u64]) {

@@ -11,8 +11,15 @@ use std::sync::Arc;
 pub enum Action {
     /// A change that both hosts get.
     Change(Change),
-    Read { place: usize, address: u64, keep: bool, pin: bool },
-    LetGo { place: usize },
+    Read {
+        place: usize,
+        address: u64,
+        keep: bool,
+        pin: bool,
+    },
+    LetGo {
+        place: usize,
+    },
     Flush,
     Sync,
     Move,
@@ -46,11 +53,13 @@ pub fn next(random: &mut Random, journal: &Journal, due: bool) -> Action {
 
 /// A change that both hosts get.
 pub fn change(random: &mut Random, journal: &Journal) -> Change {
+    // The more records there are, the more are discarded.
     let kind = random.below(100);
+    let discards = 70 + journal.records().len() as u64 / 4;
     match some_record(random, journal, 0) {
         Some(address) if kind < 60 => Change::ReleaseChanged { address, bytes: contents(random) },
         Some(address) if kind < 70 => Change::Resize { address, bytes: contents(random) },
-        Some(address) if kind < 80 => Change::Discard { address },
+        Some(address) if kind < discards => Change::Discard { address },
         some => {
             let address = random.below(SLOTS);
             let free = (0..SLOTS).map(|n| (address + n) % SLOTS).find(|at| !journal.records().contains_key(at));
@@ -81,7 +90,8 @@ fn some_record(random: &mut Random, journal: &Journal, from: usize) -> Option<u6
     (records > 0).then(|| journal.records().keys().nth(place % records).copied()).flatten()
 }
 
-fn contents(random: &mut Random) -> Arc<[u8]> {
+/// A record's bytes.
+pub fn contents(random: &mut Random) -> Arc<[u8]> {
     let largest = if random.once_in(10) { LARGEST } else { 400 };
     (0..1 + random.below(largest)).map(|_| random.below(256) as u8).collect()
 }

@@ -1,7 +1,7 @@
 //! The two host processes, as their parent has them.
 
 use crate::failure::Failure;
-use crate::message::Message;
+use crate::message::{self, Message};
 use std::fs::File;
 use std::io;
 use std::os::fd::OwnedFd;
@@ -32,10 +32,10 @@ pub enum Heard {
     Ended(usize),
 }
 
-/// A line of a trace: when, in microseconds since 1970; which host; what.
+/// A line of a trace: when, in microseconds since 1970; which host, or the referee; what.
 pub struct Note {
     pub time: u64,
-    pub place: usize,
+    pub place: Option<usize>,
     pub text: String,
 }
 
@@ -45,7 +45,8 @@ pub struct Hosts {
     sender: Sender<Event>,
     world: File,
     started: u64,
-    pub notes: Vec<Note>,
+    tracing: bool,
+    notes: Vec<Note>,
 }
 
 impl Process {
@@ -85,7 +86,15 @@ impl Hosts {
     pub fn start(world: &File) -> io::Result<Hosts> {
         let (sender, events) = channel();
         let processes = [Process::start(0, 0, world, sender.clone())?, Process::start(1, 1, world, sender.clone())?];
-        Ok(Hosts { processes, events, sender, world: world.try_clone()?, started: 2, notes: Vec::new() })
+        Ok(Hosts {
+            processes,
+            events,
+            sender,
+            world: world.try_clone()?,
+            started: 2,
+            tracing: false,
+            notes: Vec::new(),
+        })
     }
 
     pub fn kill(&mut self, place: usize) -> io::Result<()> {
@@ -93,10 +102,13 @@ impl Hosts {
     }
 
     /// A new process at the place of one that has ended.
-    pub fn replace(&mut self, place: usize) -> io::Result<()> {
+    pub fn replace(&mut self, place: usize) -> Result<(), Failure> {
         self.processes[place] = Process::start(place, self.started, &self.world, self.sender.clone())?;
         self.started += 1;
-        Ok(())
+        match self.tracing {
+            true => self.request(place, &Message::Trace { on: true }).map(drop),
+            false => Ok(()),
+        }
     }
 
     pub fn send(&mut self, place: usize, message: &Message) -> io::Result<()> {
@@ -111,7 +123,7 @@ impl Hosts {
                 continue;
             };
             match event.message {
-                Some(Message::Note { time, text }) => self.notes.push(Note { time, place, text }),
+                Some(Message::Note { time, text }) => self.notes.push(Note { time, place: Some(place), text }),
                 Some(message) => return Ok(Heard::Said(place, message)),
                 None => return Ok(Heard::Ended(place)),
             }
@@ -126,6 +138,33 @@ impl Hosts {
             Heard::Said(from, answer) if from == place => Ok(answer),
             Heard::Said(from, answer) => Err(broken(&format!("host {} says {answer:?}", from + 1))),
             Heard::Ended(ended) => Err(broken(&format!("host {} ended by itself", ended + 1))),
+        }
+    }
+
+    // ---- a trace
+
+    /// From now on what the hosts do is noted.
+    pub fn trace(&mut self) -> Result<(), Failure> {
+        self.set_tracing(true)
+    }
+
+    /// What was noted, by time.
+    pub fn end_trace(&mut self) -> Result<Vec<Note>, Failure> {
+        self.set_tracing(false)?;
+        let mut notes = std::mem::take(&mut self.notes);
+        notes.sort_by_key(|note| note.time);
+        Ok(notes)
+    }
+
+    fn set_tracing(&mut self, on: bool) -> Result<(), Failure> {
+        self.tracing = on;
+        (0..2).try_for_each(|place| self.request(place, &Message::Trace { on }).map(drop))
+    }
+
+    /// Notes what the referee does.
+    pub fn note(&mut self, text: impl FnOnce() -> String) {
+        if self.tracing {
+            self.notes.push(Note { time: message::now(), place: None, text: text() });
         }
     }
 }

@@ -63,7 +63,7 @@ impl Referee {
         Ok(safe)
     }
 
-    fn place_of(&self, part: Part) -> usize {
+    pub fn place_of(&self, part: Part) -> usize {
         match part {
             Part::Lead => self.lead,
             Part::Standby => 1 - self.lead,
@@ -166,7 +166,11 @@ impl Referee {
                 let action = self.action_to(moment);
                 self.kill_amid(action, Kill::At { moment, after }, None)?;
             }
-            Some(moment) if again => self.kill_at_random(Some(Kill::At { moment, after: 0 }))?,
+            Some(moment) if again => {
+                let change = play::change(&mut self.random, &self.journal);
+                let first = Kill::at_random(&mut self.random);
+                self.kill_amid(Action::Change(change), first, Some(Kill::At { moment, after: 0 }))?;
+            }
             _ => {
                 let then = (again && self.random.once_in(4)).then(|| Kill::at_random(&mut self.random));
                 self.kill_at_random(then)?;
@@ -178,9 +182,7 @@ impl Referee {
     /// What leads to a moment.
     fn action_to(&mut self, moment: Moment) -> Action {
         match moment {
-            Moment::LeadOnly | Moment::Unacknowledged => {
-                Action::Change(play::change(&mut self.random, &self.journal))
-            }
+            Moment::LeadOnly | Moment::Unacknowledged => Action::Change(play::change(&mut self.random, &self.journal)),
             Moment::BeforeSwitch | Moment::Switched => Action::Move,
             _ => Action::Flush,
         }
@@ -221,6 +223,7 @@ impl Referee {
             },
             Kill::Later { delay, .. } => sleep(delay),
         }
+        self.hosts.note(|| format!("kills host {} by SIGKILL", victim + 1));
         self.hosts.kill(victim)?;
         self.hear_out(place, victim)?;
         Ok(victim)
@@ -277,7 +280,10 @@ impl Referee {
                 }
                 None => {
                     self.hosts.request(survivor, &Message::BringIn)?;
-                    self.course.losses.last_mut().map(|loss| loss.recovered = Some(killed.elapsed()));
+                    self.hosts.note(|| "the play goes on".into());
+                    if let Some(loss) = self.course.losses.last_mut() {
+                        loss.recovered = Some(killed.elapsed());
+                    }
                     return Ok(());
                 }
             }
@@ -300,6 +306,7 @@ impl Referee {
         self.journal.survived(last);
         let checked = self.journal.check(survivor, &memory, &self.world)?;
         self.course.checked += checked;
+        self.hosts.note(|| format!("checks {checked} records of the journal: none is lost"));
         Ok((memory.iter().filter(|record| record.dirty).count() as u64, checked))
     }
 

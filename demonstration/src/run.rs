@@ -1,11 +1,14 @@
 //! A whole run.
 
 use crate::arguments::Arguments;
+use crate::course::Course;
 use crate::failure::Failure;
 use crate::kill::plans;
 use crate::process::broken;
+use crate::provoke::provoke;
 use crate::referee::Referee;
-use crate::{summary, world};
+use crate::trace::trace;
+use crate::{csv, picture, summary, world};
 use std::fs::{self, File, OpenOptions};
 use std::io;
 
@@ -13,12 +16,38 @@ use std::io;
 const MOST_TOLD: u64 = 50;
 
 pub fn run(arguments: &Arguments) -> Result<(), Failure> {
-    let Arguments { seed, steps, kills, .. } = *arguments;
-    println!("seed {seed}: {steps} steps, {kills} kills");
-    let mut referee = Referee::start(world_file(arguments)?, seed)?;
-    play(&mut referee, steps, kills)?;
+    println!(
+        "seed {}: a lead and a standby as two processes, a world of up to {} records",
+        arguments.seed,
+        world::SLOTS
+    );
+    let mut referee = Referee::start(world_file(arguments)?, arguments.seed)?;
+    let ended = match arguments.mistake {
+        Some(mistake) => provoke(&mut referee, mistake),
+        None if arguments.trace => trace(&mut referee),
+        None => play(&mut referee, arguments.steps, arguments.kills),
+    };
+    record(&referee.course, arguments)?;
+    ended
+}
+
+/// The figures of the run in the files that were asked for.
+fn record(course: &Course, arguments: &Arguments) -> io::Result<()> {
+    if let Some(path) = &arguments.csv {
+        csv::write(course, path)?;
+    }
+    if let Some(path) = &arguments.svg {
+        let (moves, kills) = (course.moves.len(), course.losses.len());
+        picture::write(course, &format!("seed {}: {moves} moves, {kills} kills", arguments.seed), path)?;
+    }
+    Ok(())
+}
+
+/// Plays with kills, and checks both hosts at the end.
+fn play(referee: &mut Referee, steps: u64, kills: u64) -> Result<(), Failure> {
+    play_and_kill(referee, steps, kills)?;
     referee.check_both()?;
-    summary::print(&referee);
+    summary::print(&referee.course, &referee.journal, referee.elapsed());
     match referee.course.differing() {
         0 => Ok(()),
         n => Err(broken(&format!("the hosts differed in what is dirty after {n} steps"))),
@@ -43,7 +72,7 @@ fn world_file(arguments: &Arguments) -> io::Result<File> {
     Ok(file)
 }
 
-fn play(referee: &mut Referee, steps: u64, kills: u64) -> Result<(), Failure> {
+fn play_and_kill(referee: &mut Referee, steps: u64, kills: u64) -> Result<(), Failure> {
     let mut plans = plans(&mut referee.random, kills).into_iter();
     let (mut left, mut told) = (kills, 0);
     while referee.step < steps || left > 0 {

@@ -1,12 +1,13 @@
 //! What a run prints.
 
-use crate::course::Loss;
-use crate::referee::Referee;
+use crate::course::{Course, Loss};
+use crate::journal::Journal;
+use std::collections::BTreeMap;
+use std::time::Duration;
 
 pub fn print_loss(number: usize, loss: &Loss) {
     println!(
-        "kill {number:>4}: host {} ({}) {}; {} records checked, {} dirty brought in",
-        loss.place + 1,
+        "kill {number:>4}: {:7} {:42} {:>3} records checked, {:>2} dirty brought in",
         loss.part.name(),
         loss.moment,
         loss.checked,
@@ -14,6 +15,63 @@ pub fn print_loss(number: usize, loss: &Loss) {
     );
 }
 
-pub fn print(referee: &Referee) {
-    println!("{} steps, {} moves, {} kills, {:?}", referee.step, referee.course.moves.len(), referee.course.losses.len(), referee.elapsed());
+pub fn print(course: &Course, journal: &Journal, took: Duration) {
+    let [created, changed, resized, discarded] = course.changes;
+    let steps = course.samples.len();
+    println!("\n{steps} steps in {:.1} s", took.as_secs_f64());
+    println!("{created} created, {changed} changed, {resized} resized, {discarded} discarded, {} read", course.reads);
+    println!("{} changes that both hosts had", journal.both);
+    println!(
+        "{} changes in flight at a kill: the survivor had {}, and had not {}",
+        journal.kept + journal.dropped,
+        journal.kept,
+        journal.dropped
+    );
+    println!("{} lists, the longest with {} records", course.lists, course.longest_list);
+    println!("what is dirty was the same at both hosts after {} of {steps} steps", steps - course.differing());
+    print_moves(course);
+    print_losses(course);
+}
+
+fn print_moves(course: &Course) {
+    let times = |part: fn(&crate::message::MoveTimes) -> u64| {
+        spread(course.moves.iter().map(|moved| Duration::from_micros(part(&moved.times))).collect())
+    };
+    println!("\n{} moves: {}", course.moves.len(), times(|times| times.flush + times.list + times.switch));
+    println!("  flush: {}", times(|times| times.flush));
+    println!("  last list: {}", times(|times| times.list));
+    println!("  switch: {}", times(|times| times.switch));
+}
+
+fn print_losses(course: &Course) {
+    println!("\n{} kills", course.losses.len());
+    let mut counts = BTreeMap::new();
+    for loss in &course.losses {
+        *counts.entry((!loss.chosen, loss.part, &loss.moment)).or_insert(0u64) += 1;
+    }
+    for ((_, part, moment), count) in &counts {
+        println!("{count:>5}  {:7} {moment}", part.name());
+    }
+    println!(
+        "until the survivor had written what only it had: {}",
+        spread(course.losses.iter().map(|loss| loss.safe).collect())
+    );
+    println!("until both hosts went on: {}", spread(course.losses.iter().filter_map(|loss| loss.recovered).collect()));
+    println!("{} records checked; none is lost", course.checked);
+}
+
+/// The median and the worst.
+fn spread(mut times: Vec<Duration>) -> String {
+    times.sort();
+    match times.last() {
+        Some(worst) => {
+            let median = times[(times.len() - 1) / 2];
+            format!("median {:.2} ms, worst {:.2} ms", milliseconds(median), milliseconds(*worst))
+        }
+        None => "none".to_string(),
+    }
+}
+
+fn milliseconds(time: Duration) -> f64 {
+    time.as_secs_f64() * 1_000.0
 }

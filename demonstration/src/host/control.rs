@@ -1,12 +1,11 @@
 //! A host's side of its socket to the referee: answers, notes, and the moment at which it stops.
 
-use crate::message::Message;
+use crate::message::{self, Message};
 use crate::mistake::Mistake;
 use crate::moment::Moment;
 use std::cell::Cell;
 use std::io;
 use std::os::unix::net::UnixStream;
-use std::time::{SystemTime, UNIX_EPOCH};
 
 pub struct Control {
     stream: UnixStream,
@@ -25,16 +24,15 @@ impl Control {
         message.send(&self.stream)
     }
 
-    pub fn trace(&self) {
-        self.tracing.set(true);
+    pub fn trace(&self, on: bool) {
+        self.tracing.set(on);
     }
 
     /// Tells what was done, if that is wanted.
     pub fn note(&self, text: impl FnOnce() -> String) {
         if self.tracing.get() {
-            let time = SystemTime::now().duration_since(UNIX_EPOCH).map_or(0, |time| time.as_micros() as u64);
             // If the referee is gone, so is this process.
-            let _ = self.send(&Message::Note { time, text: text() });
+            let _ = self.send(&Message::Note { time: message::now(), text: text() });
         }
     }
 

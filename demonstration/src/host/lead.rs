@@ -55,7 +55,6 @@ impl HostProcess {
         self.apply(number, change)?;
         self.control.stop_at(Moment::LeadOnly);
         self.tell(&Message::Do { number, change: change.clone() })?;
-        self.control.note(|| format!("record {}: the standby has it too", change.address()));
         match self.kept_back.take() {
             Some(list) => self.deliver(&list),
             None => Ok(()),
