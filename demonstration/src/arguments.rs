@@ -60,6 +60,9 @@ pub fn parse(given: &[String]) -> Result<Option<Arguments>, String> {
     if arguments.steps < arguments.kills {
         return Err(format!("{} kills want at least as many steps", arguments.kills));
     }
+    if arguments.trace && arguments.mistake.is_some() {
+        return Err("--trace and --break do not go together".into());
+    }
     Ok(Some(arguments))
 }
 

@@ -8,8 +8,8 @@ mod lead;
 mod standby;
 mod store;
 
-use crate::message::{Figures, Message, Resident};
 use crate::mistake::Mistake;
+use crate::wire::message::{Figures, Message, Resident};
 use control::Control;
 use speldervacht::{Cache, Decrease, Flash, Host, HostError, Increase, List, Mode, ReadGuard, Refusal, Settings};
 use std::collections::{BTreeMap, BTreeSet, VecDeque};
@@ -32,16 +32,16 @@ const MOST_KEPT: usize = 4;
 
 /// The two hosts have caches of different sizes.
 fn rows_and_settings(place: usize) -> (usize, Settings) {
-    let (rows, initial_size) = [(24, 8_192), (32, 12_288)][place];
+    let (rows, initial_size) = [(32, 5_120), (48, 7_168)][place];
     let settings = Settings {
         initial_size: Some(initial_size),
         maximum_size: 2 * initial_size,
         minimum_size: initial_size / 2,
         epoch_length: 100,
-        increase: Increase::Threshold { lower: 0.5, multiplier: 1.5 },
+        increase: Increase::Threshold { lower: 0.7, multiplier: 1.5 },
         increase_cap: None,
         flash: Flash::On { multiple: 1.0, threshold: 0.1 },
-        decrease: Decrease::AgeOutWithThreshold { upper: 0.6, epochs: 2, reserve: 0.1 },
+        decrease: Decrease::AgeOutWithThreshold { upper: 0.75, epochs: 1, reserve: 0.1 },
         ..Settings::default()
     };
     (rows, settings)

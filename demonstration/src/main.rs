@@ -1,26 +1,13 @@
 //! A lead and a standby as two processes over a Unix socket, a world in a file, random play, and kills.
 
 mod arguments;
-mod course;
-mod csv;
-mod failure;
-mod frame;
 mod host;
-mod journal;
-mod kill;
-mod message;
 mod mistake;
 mod moment;
-mod picture;
-mod play;
-mod process;
-mod provoke;
-mod random;
 mod referee;
+mod report;
 mod run;
-mod socket;
-mod summary;
-mod trace;
+mod wire;
 mod world;
 
 use std::process::ExitCode;

@@ -1,15 +1,25 @@
 //! The referee: starts the two hosts, has them play, kills them, and checks after each kill that nothing
 //! is lost that both had.
 
-use crate::course::{Course, Loss, Move, Sample};
-use crate::failure::Failure;
-use crate::journal::Journal;
-use crate::kill::Kill;
-use crate::message::{Figures, Message, Resident};
+pub mod course;
+pub mod failure;
+pub mod journal;
+pub mod kill;
+mod play;
+pub mod process;
+pub mod provoke;
+mod random;
+pub mod trace;
+
 use crate::moment::{Moment, Part};
-use crate::play::{self, Action};
-use crate::process::{broken, Heard, Hosts};
-use crate::random::Random;
+use crate::wire::message::{Figures, Message, Resident};
+use course::{Course, Loss, Move, Sample};
+use failure::{broken, Failure};
+use journal::Journal;
+use kill::Kill;
+use play::Action;
+use process::{Heard, Hosts};
+use random::Random;
 use speldervacht::Change;
 use std::fs::File;
 use std::thread::sleep;
@@ -48,19 +58,22 @@ impl Referee {
             began: Instant::now(),
             figures: Figures::default(),
         };
-        referee.begin_pair(0)?;
+        referee.lead(0)?;
+        referee.join(1)?;
         referee.hosts.request(0, &Message::BringIn)?;
         Ok(referee)
     }
 
-    /// The host at the place leads a new pair, and the other joins it.
-    fn begin_pair(&mut self, lead: usize) -> Result<Instant, Failure> {
+    /// The host at the place leads a new pair.
+    fn lead(&mut self, place: usize) -> Result<(), Failure> {
         self.pair += 1;
-        self.lead = lead;
-        self.hosts.request(lead, &Message::Lead { pair: self.pair })?;
-        let safe = Instant::now();
-        self.hosts.request(1 - lead, &Message::Join { pair: self.pair })?;
-        Ok(safe)
+        self.lead = place;
+        self.hosts.request(place, &Message::Lead { pair: self.pair }).map(drop)
+    }
+
+    /// The host at the place joins it.
+    fn join(&mut self, place: usize) -> Result<(), Failure> {
+        self.hosts.request(place, &Message::Join { pair: self.pair }).map(drop)
     }
 
     pub fn place_of(&self, part: Part) -> usize {
@@ -123,7 +136,7 @@ impl Referee {
             }
             Message::Moved(times) => {
                 self.lead = 1 - self.lead;
-                self.course.moves.push(Move { step: self.step, time: self.began.elapsed(), times });
+                self.course.moves.push(Move { step: self.step, times });
             }
             _ => {}
         }
@@ -218,8 +231,8 @@ impl Referee {
         match kill {
             Kill::At { moment, .. } => match self.hosts.hear()? {
                 Heard::Said(from, Message::Stopped) if from == victim => {}
-                Heard::Said(_, Message::Refused { number, text }) => return Err(Failure::Refused { number, text }),
-                _ => return Err(broken(&format!("no host stopped {}", moment.text()))),
+                Heard::Said(_, Message::Refused { text, .. }) => return Err(Failure::Refused(text)),
+                _ => return Err(broken(format!("no host stopped {}", moment.text()))),
             },
             Kill::Later { delay, .. } => sleep(delay),
         }
@@ -235,8 +248,8 @@ impl Referee {
         while !ended || !answered {
             match self.hosts.hear()? {
                 Heard::Ended(from) if from == victim => ended = true,
-                Heard::Ended(from) => return Err(broken(&format!("host {} ended by itself", from + 1))),
-                Heard::Said(_, Message::Refused { number, text }) => return Err(Failure::Refused { number, text }),
+                Heard::Ended(from) => return Err(broken(format!("host {} ended by itself", from + 1))),
+                Heard::Said(_, Message::Refused { text, .. }) => return Err(Failure::Refused(text)),
                 Heard::Said(from, answer) if from == place => {
                     self.done(answer);
                     answered = true;
@@ -259,11 +272,12 @@ impl Referee {
             let killed = Instant::now();
             let survivor = 1 - victim;
             let (dirty, checked) = self.check_survivor(survivor)?;
+            self.lead(survivor)?;
+            let safe = killed.elapsed();
             self.hosts.replace(victim)?;
-            let safe = self.begin_pair(survivor)?.duration_since(killed);
+            self.join(victim)?;
             self.course.losses.push(Loss {
                 step: self.step,
-                time: self.began.elapsed(),
                 place: victim,
                 part: kill.victim(),
                 moment: kill.text(amid),
@@ -322,7 +336,7 @@ impl Referee {
     fn told(&mut self, place: usize) -> Result<(u64, Vec<Resident>), Failure> {
         match self.hosts.request(place, &Message::Tell)? {
             Message::Told { last, records } => Ok((last, records)),
-            other => Err(broken(&format!("host {} tells {other:?}", place + 1))),
+            other => Err(broken(format!("host {} tells {other:?}", place + 1))),
         }
     }
 

@@ -1,16 +1,17 @@
 //! A whole run.
 
 use crate::arguments::Arguments;
-use crate::course::Course;
-use crate::failure::Failure;
-use crate::kill::plans;
-use crate::process::broken;
-use crate::provoke::provoke;
+use crate::referee::course::Course;
+use crate::referee::failure::{broken, Failure};
+use crate::referee::kill::plans;
+use crate::referee::provoke::provoke;
+use crate::referee::trace::trace;
 use crate::referee::Referee;
-use crate::trace::trace;
-use crate::{csv, picture, summary, world};
+use crate::report::{csv, picture, summary};
+use crate::world;
 use std::fs::{self, File, OpenOptions};
 use std::io;
+use std::path::Path;
 
 /// A run of more kills tells only some of them.
 const MOST_TOLD: u64 = 50;
@@ -34,13 +35,19 @@ pub fn run(arguments: &Arguments) -> Result<(), Failure> {
 /// The figures of the run in the files that were asked for.
 fn record(course: &Course, arguments: &Arguments) -> io::Result<()> {
     if let Some(path) = &arguments.csv {
-        csv::write(course, path)?;
+        named(path, csv::write(course, path))?;
     }
     if let Some(path) = &arguments.svg {
         let (moves, kills) = (course.moves.len(), course.losses.len());
-        picture::write(course, &format!("seed {}: {moves} moves, {kills} kills", arguments.seed), path)?;
+        let title = format!("seed {}: {moves} moves, {kills} kills", arguments.seed);
+        named(path, picture::write(course, &title, path))?;
     }
     Ok(())
+}
+
+/// An error says which file it is about.
+fn named<T>(path: &Path, result: io::Result<T>) -> io::Result<T> {
+    result.map_err(|error| io::Error::new(error.kind(), format!("{}: {error}", path.display())))
 }
 
 /// Plays with kills, and checks both hosts at the end.
@@ -50,7 +57,7 @@ fn play(referee: &mut Referee, steps: u64, kills: u64) -> Result<(), Failure> {
     summary::print(&referee.course, &referee.journal, referee.elapsed());
     match referee.course.differing() {
         0 => Ok(()),
-        n => Err(broken(&format!("the hosts differed in what is dirty after {n} steps"))),
+        n => Err(broken(format!("the hosts differed in what is dirty after {n} steps"))),
     }
 }
 
@@ -59,12 +66,12 @@ fn play(referee: &mut Referee, steps: u64, kills: u64) -> Result<(), Failure> {
 fn world_file(arguments: &Arguments) -> io::Result<File> {
     let path = match &arguments.folder {
         Some(folder) => {
-            fs::create_dir_all(folder)?;
+            named(folder, fs::create_dir_all(folder))?;
             folder.join("world")
         }
         None => std::env::temp_dir().join(format!("speldervacht-world-{}", std::process::id())),
     };
-    let file = OpenOptions::new().read(true).write(true).create(true).truncate(true).open(&path)?;
+    let file = named(&path, OpenOptions::new().read(true).write(true).create_new(true).open(&path))?;
     if arguments.folder.is_none() {
         fs::remove_file(&path)?;
     }
@@ -84,7 +91,7 @@ fn play_and_kill(referee: &mut Referee, steps: u64, kills: u64) -> Result<(), Fa
         left -= referee.kill(plans.next().flatten(), left)?;
         for loss in &referee.course.losses[told..] {
             told += 1;
-            if kills <= MOST_TOLD || told as u64 % (kills / 20) == 0 {
+            if kills <= MOST_TOLD || (told as u64).is_multiple_of(kills / 20) {
                 summary::print_loss(told, loss);
             }
         }

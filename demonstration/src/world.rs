@@ -33,16 +33,20 @@ pub fn size(file: &File, address: u64) -> io::Result<u64> {
     word(file, address * SLOT)
 }
 
-/// Reads the record in a slot. A checksum that is not the record's is an error.
+/// Reads the record in a slot. A slot that was never written is an error, and so is a checksum that is not
+/// the record's.
 pub fn get(file: &File, address: u64) -> io::Result<Vec<u8>> {
     let size = size(file, address)?;
+    if size == 0 {
+        return Err(io::Error::new(io::ErrorKind::NotFound, "no record in the file"));
+    }
     if size > LARGEST {
-        return Err(damaged(address));
+        return Err(damaged());
     }
     let mut record = vec![0; size as usize];
     file.read_exact_at(&mut record, address * SLOT + HEADER)?;
     if word(file, address * SLOT + 8)? != checksum(&record) {
-        return Err(damaged(address));
+        return Err(damaged());
     }
     Ok(record)
 }
@@ -53,8 +57,8 @@ fn word(file: &File, at: u64) -> io::Result<u64> {
     Ok(u64::from_be_bytes(word))
 }
 
-fn damaged(address: u64) -> io::Error {
-    io::Error::new(io::ErrorKind::InvalidData, format!("slot {address} is damaged"))
+fn damaged() -> io::Error {
+    io::Error::new(io::ErrorKind::InvalidData, "a damaged record in the file")
 }
 
 /// FNV-1a.

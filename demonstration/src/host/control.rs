@@ -1,8 +1,8 @@
 //! A host's side of its socket to the referee: answers, notes, and the moment at which it stops.
 
-use crate::message::{self, Message};
 use crate::mistake::Mistake;
 use crate::moment::Moment;
+use crate::wire::message::{self, Message};
 use std::cell::Cell;
 use std::io;
 use std::os::unix::net::UnixStream;

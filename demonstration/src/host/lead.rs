@@ -1,10 +1,10 @@
 //! What a lead does: shared changes, lists, moves, and a new standby's catching up.
 
 use super::{Event, Failure, HostProcess};
-use crate::message::{Message, MoveTimes};
 use crate::mistake::Mistake;
 use crate::moment::Moment;
-use crate::socket;
+use crate::wire::message::{Message, MoveTimes};
+use crate::wire::socket;
 use speldervacht::{Change, List, Mode, Refusal, Store};
 use std::io::Write;
 use std::time::Instant;

@@ -1,10 +1,10 @@
 //! What a standby does, and what both do with a shared change.
 
 use super::{Failure, HostProcess};
-use crate::message::Message;
 use crate::mistake::Mistake;
 use crate::moment::Moment;
-use crate::socket;
+use crate::wire::message::Message;
+use crate::wire::socket;
 use speldervacht::{Change, List, Mode};
 
 impl HostProcess {

@@ -1,7 +1,7 @@
 //! The two host processes, as their parent has them.
 
-use crate::failure::Failure;
-use crate::message::{self, Message};
+use super::failure::{broken, Failure};
+use crate::wire::message::{self, Message};
 use std::fs::File;
 use std::io;
 use std::os::fd::OwnedFd;
@@ -134,10 +134,10 @@ impl Hosts {
     pub fn request(&mut self, place: usize, message: &Message) -> Result<Message, Failure> {
         self.send(place, message)?;
         match self.hear()? {
-            Heard::Said(_, Message::Refused { number, text }) => Err(Failure::Refused { number, text }),
+            Heard::Said(_, Message::Refused { text, .. }) => Err(Failure::Refused(text)),
             Heard::Said(from, answer) if from == place => Ok(answer),
-            Heard::Said(from, answer) => Err(broken(&format!("host {} says {answer:?}", from + 1))),
-            Heard::Ended(ended) => Err(broken(&format!("host {} ended by itself", ended + 1))),
+            Heard::Said(from, answer) => Err(broken(format!("host {} says {answer:?}", from + 1))),
+            Heard::Ended(ended) => Err(broken(format!("host {} ended by itself", ended + 1))),
         }
     }
 
@@ -167,8 +167,4 @@ impl Hosts {
             self.notes.push(Note { time: message::now(), place: None, text: text() });
         }
     }
-}
-
-pub fn broken(text: &str) -> Failure {
-    Failure::Broken(text.to_string())
 }

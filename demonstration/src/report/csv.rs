@@ -1,6 +1,6 @@
 //! The figures of a run as a table of text.
 
-use crate::course::Course;
+use crate::referee::course::Course;
 use std::fs::File;
 use std::io::{self, BufWriter, Write};
 use std::path::Path;

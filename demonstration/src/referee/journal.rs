@@ -1,8 +1,8 @@
 //! What the referee knows of the world, apart from the hosts: each record as the last change left it that
 //! both hosts have had, and the one change that is under way.
 
-use crate::failure::{told, Failure};
-use crate::message::Resident;
+use super::failure::{told, Failure};
+use crate::wire::message::Resident;
 use crate::world;
 use speldervacht::Change;
 use std::collections::BTreeMap;
@@ -74,10 +74,12 @@ impl Journal {
                 return Err(lost(format!("{} in the memory of host {host}", told(&record.bytes))));
             }
             if !resident.is_some_and(|record| record.dirty) {
-                let record = world::get(file, *address).map_err(|error| lost(error.to_string()))?;
-                if record[..] != expected[..] {
-                    return Err(lost(format!("{} in the file, and not dirty at host {host}", told(&record))));
-                }
+                let found = match world::get(file, *address) {
+                    Ok(record) if record[..] == expected[..] => continue,
+                    Ok(record) => format!("{} in the file", told(&record)),
+                    Err(error) => error.to_string(),
+                };
+                return Err(lost(format!("{found}, and not dirty at host {host}")));
             }
         }
         match memory.keys().find(|address| !self.records.contains_key(address)) {

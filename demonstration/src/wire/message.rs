@@ -1,8 +1,8 @@
 //! What the referee and the hosts say to one another.
 
-use crate::frame::{damaged, read_frame, Reader, Writer};
 use crate::mistake::Mistake;
 use crate::moment::Moment;
+use crate::wire::frame::{damaged, read_frame, Reader, Writer};
 use speldervacht::Change;
 use std::io::{self, Write};
 use std::os::unix::net::UnixStream;

@@ -1,11 +1,11 @@
 //! One move and one lost lead, line by line.
 
-use crate::failure::Failure;
-use crate::kill::Kill;
+use super::failure::Failure;
+use super::kill::Kill;
+use super::play::{self, Action};
+use super::process::Note;
+use super::Referee;
 use crate::moment::Moment;
-use crate::play::{self, Action};
-use crate::process::Note;
-use crate::referee::Referee;
 
 /// Steps before the move, and the changes before each of the two.
 const BEFORE: u64 = 300;

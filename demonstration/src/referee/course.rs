@@ -1,7 +1,7 @@
 //! What came of a run: figures after each step, moves, kills.
 
-use crate::message::{Figures, MoveTimes};
 use crate::moment::Part;
+use crate::wire::message::{Figures, MoveTimes};
 use std::time::Duration;
 
 /// The figures of both hosts after a step.
@@ -23,13 +23,11 @@ impl Sample {
 
 pub struct Move {
     pub step: u64,
-    pub time: Duration,
     pub times: MoveTimes,
 }
 
 pub struct Loss {
     pub step: u64,
-    pub time: Duration,
     /// Where the killed host was, and what part it played.
     pub place: usize,
     pub part: Part,

@@ -1,13 +1,12 @@
 //! A run in which a host makes a mistake on purpose.
 
-use crate::failure::Failure;
-use crate::kill::Kill;
-use crate::message::Message;
+use super::failure::{broken, Failure};
+use super::kill::Kill;
+use super::play::{self, Action};
+use super::Referee;
 use crate::mistake::Mistake;
 use crate::moment::Part;
-use crate::play::{self, Action};
-use crate::process::broken;
-use crate::referee::Referee;
+use crate::wire::message::Message;
 use speldervacht::Change;
 use std::time::Duration;
 

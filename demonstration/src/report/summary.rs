@@ -1,7 +1,8 @@
 //! What a run prints.
 
-use crate::course::{Course, Loss};
-use crate::journal::Journal;
+use crate::referee::course::{Course, Loss};
+use crate::referee::journal::Journal;
+use crate::wire::message::MoveTimes;
 use std::collections::BTreeMap;
 use std::time::Duration;
 
@@ -34,7 +35,7 @@ pub fn print(course: &Course, journal: &Journal, took: Duration) {
 }
 
 fn print_moves(course: &Course) {
-    let times = |part: fn(&crate::message::MoveTimes) -> u64| {
+    let times = |part: fn(&MoveTimes) -> u64| {
         spread(course.moves.iter().map(|moved| Duration::from_micros(part(&moved.times))).collect())
     };
     println!("\n{} moves: {}", course.moves.len(), times(|times| times.flush + times.list + times.switch));

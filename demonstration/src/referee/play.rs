@@ -1,8 +1,8 @@
 //! Random play: records are created, changed, resized, read, pinned and discarded, lists are sent, and the
 //! world moves.
 
-use crate::journal::Journal;
-use crate::random::Random;
+use super::journal::Journal;
+use super::random::Random;
 use crate::world::{LARGEST, SLOTS};
 use speldervacht::Change;
 use std::sync::Arc;

@@ -1,7 +1,7 @@
 //! How a host is killed.
 
+use super::random::Random;
 use crate::moment::{Moment, Part};
-use crate::random::Random;
 use std::time::Duration;
 
 /// A kill that is planned.

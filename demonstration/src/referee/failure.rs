@@ -8,8 +8,8 @@ use std::io;
 pub enum Failure {
     /// A record that both hosts had is not where the survivor would get it.
     Lost { address: u64, expected: String, found: String },
-    /// A host refuses what it should accept: the library's number, and words.
-    Refused { number: u64, text: String },
+    /// A host refuses what it should accept, in words with the library's number.
+    Refused(String),
     /// The demonstration itself failed.
     Broken(String),
 }
@@ -19,13 +19,17 @@ pub fn told(record: &[u8]) -> String {
     format!("{} bytes with checksum {:016x}", record.len(), checksum(record))
 }
 
+pub fn broken(text: impl Into<String>) -> Failure {
+    Failure::Broken(text.into())
+}
+
 impl fmt::Display for Failure {
     fn fmt(&self, f: &mut fmt::Formatter) -> fmt::Result {
         match self {
             Failure::Lost { address, expected, found } => {
                 write!(f, "record {address} is lost: expected {expected}, found {found}")
             }
-            Failure::Refused { text, .. } => text.fmt(f),
+            Failure::Refused(text) => text.fmt(f),
             Failure::Broken(text) => write!(f, "the demonstration failed: {text}"),
         }
     }

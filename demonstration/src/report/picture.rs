@@ -1,8 +1,8 @@
 //! The picture of a run: dirty bytes, held bytes and the maximum of both hosts, as SVG.
 
-use crate::course::{Course, Sample};
-use crate::message::Figures;
 use crate::moment::Part;
+use crate::referee::course::{Course, Sample};
+use crate::wire::message::Figures;
 use std::fmt::{self, Write};
 use std::fs;
 use std::io;
@@ -22,7 +22,7 @@ const MOST_POINTS: usize = 1_640;
 type Panel = (&'static str, fn(&Figures) -> u64);
 
 const PANELS: [Panel; 3] = [
-    ("dirty bytes: one curve", |figures| figures.dirty),
+    ("dirty bytes", |figures| figures.dirty),
     ("held bytes", |figures| figures.held),
     ("maximum", |figures| figures.maximum),
 ];
@@ -31,7 +31,7 @@ const STYLE: &str = "\
 text { font: 12px sans-serif; fill: #333 } .paper { fill: #fff } .axis { stroke: #999 } .grid { stroke: #999; opacity: .3 }
 .host1 { stroke: #2f7fd6; fill: none } .host2 { stroke: #e08a00; fill: none } .wide { stroke-width: 5; opacity: .45 }
 .thin { stroke-width: 1.4 } .lead1 { fill: #2f7fd6 } .lead2 { fill: #e08a00 }
-.move { stroke: #888; stroke-dasharray: 3 3 } .lead { stroke: #d62f2f } .standby { stroke: #d62f2f; stroke-dasharray: 1 3 }
+.move { stroke: #888; stroke-dasharray: 3 3 } .lead { stroke: #d62f2f } .standby { stroke: #d62f2f; stroke-dasharray: 2 3 }
 @media (prefers-color-scheme: dark) { text { fill: #ccc } .paper { fill: #15181c } }
 ";
 
@@ -109,7 +109,9 @@ fn draw_panel(
         writeln!(out, "<text x='{}' y='{:.1}' text-anchor='end'>{bytes}</text>", LEFT - 6.0, y(bytes) + 4.0)?;
     }
     writeln!(out, "<text x='{LEFT}' y='{}'>{title}</text>", top(place) - 12.0)?;
-    for (host, class) in ["host1 wide", "host2 thin"].into_iter().enumerate() {
+    // Where the curves are one, the second is drawn upon the first.
+    let classes = if place == 0 { ["host1 wide", "host2 thin"] } else { ["host1 thin", "host2 thin"] };
+    for (host, class) in classes.into_iter().enumerate() {
         curve(out, class, course, &|sample| (x(sample.step), y(figure(&sample.figures[host]))))?;
     }
     Ok(())
