@@ -5,10 +5,11 @@
 
 mod control;
 mod lead;
+mod local;
+mod shared;
 mod standby;
 mod store;
 
-use crate::mistake::Mistake;
 use crate::wire::message::{Figures, Message, Resident};
 use control::Control;
 use speldervacht::{Cache, Decrease, Flash, Host, HostError, Increase, List, Mode, ReadGuard, Refusal, Settings};
@@ -27,8 +28,6 @@ use store::WorldFile;
 
 /// The same for both hosts, as demand 3 wants it.
 const THRESHOLD: u64 = 4_096;
-/// Readers and pins that a host keeps.
-const MOST_KEPT: usize = 4;
 
 /// The two hosts have caches of different sizes.
 fn rows_and_settings(place: usize) -> (usize, Settings) {
@@ -244,80 +243,6 @@ impl HostProcess {
         }
     }
 
-    /// Tries a request, and does what helps as long as it is refused and something of this host helps.
-    fn until_done<T>(
-        &mut self,
-        what: &str,
-        mut request: impl FnMut(&mut Host<WorldFile>) -> Result<T, HostError<io::Error>>,
-    ) -> Result<T, Failure> {
-        loop {
-            match request(&mut self.host) {
-                Ok(done) => return Ok(done),
-                Err(HostError::Refused(refusal)) if self.help(refusal)? => {}
-                Err(error) => return Err(self.failure(what, error)),
-            }
-        }
-    }
-
-    /// What helps at each number (docs/RULES.md). Answers whether anything did.
-    fn help(&mut self, refusal: Refusal) -> Result<bool, Failure> {
-        match refusal {
-            Refusal::NotInCache { address } | Refusal::NotHeld { address } => {
-                self.until_done(&format!("a hold on record {address}"), |host| host.protect_for_writing(address))?;
-                self.writing = Some(address);
-            }
-            Refusal::Held { address, .. } if self.readers.iter().any(|reader| reader.address() == address) => {
-                self.readers.retain(|reader| reader.address() != address);
-            }
-            Refusal::Pinned { address } => self.unpin(address)?,
-            Refusal::NoRow if !self.readers.is_empty() || !self.pins.is_empty() => {
-                self.readers.clear();
-                while let Some(address) = self.pins.first().copied() {
-                    self.unpin(address)?;
-                }
-            }
-            _ => return Ok(false),
-        }
-        Ok(true)
-    }
-
-    // ---- requests of this host alone
-
-    /// Reads a record. If there is no row for it, it is left.
-    fn read(&mut self, address: u64, keep: bool, pin: bool) -> Result<(), Failure> {
-        let guard = match self.until_done("a read", |host| host.read(address)) {
-            Err(Failure::Refused { number, .. }) if number == Refusal::NoRow.number() => return Ok(()),
-            guard => guard?,
-        };
-        if pin && self.pins.len() < MOST_KEPT && !self.pins.contains(&address) {
-            self.host.pin(address).map_err(|error| self.failure("a pin", error))?;
-            self.pins.insert(address);
-        }
-        if keep && self.readers.len() < MOST_KEPT {
-            self.readers.push_back(guard);
-        }
-        Ok(())
-    }
-
-    fn let_go(&mut self) -> Result<(), Failure> {
-        self.readers.pop_front();
-        self.pins.first().copied().map_or(Ok(()), |address| self.unpin(address))
-    }
-
-    fn unpin(&mut self, address: u64) -> Result<(), Failure> {
-        self.host.unpin(address).map_err(|error| self.failure("an unpin", error))?;
-        self.pins.remove(&address);
-        Ok(())
-    }
-
-    /// The hold for writing goes, the record as it is.
-    fn stop_writing(&mut self) -> Result<(), Failure> {
-        match self.writing.take() {
-            Some(address) => self.host.release(address).map_err(|error| self.failure("a release", error)),
-            None => Ok(()),
-        }
-    }
-
     // ---- figures
 
     fn figures(&mut self) -> Result<Message, Failure> {
@@ -342,10 +267,5 @@ impl HostProcess {
             Some(resident(entry.address, entry.dirty, bytes))
         });
         Message::Told { last: self.last, records: waiting.chain(in_cache).collect() }
-    }
-
-    /// Whether the standby drops the list it got.
-    fn drops_lists(&self) -> bool {
-        self.control.errs(Mistake::DropList)
     }
 }

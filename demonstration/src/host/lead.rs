@@ -105,6 +105,7 @@ impl HostProcess {
     /// Writes every dirty record, or enough of them, and syncs the file. A flush wants that nothing is held.
     fn write_out(&mut self, flush: bool) -> Result<List, Failure> {
         self.stop_writing()?;
+        self.control.note(|| format!("has {} dirty records and writes them", self.host.dirty().count()));
         let list = if flush {
             self.readers.clear();
             self.host.flush()

@@ -88,3 +88,87 @@ impl Journal {
         }
     }
 }
+
+#[cfg(test)]
+mod tests {
+    use super::*;
+    use std::fs::{self, OpenOptions};
+
+    /// A file with nothing in it, which has no name any more.
+    fn world(name: &str) -> File {
+        let path = std::env::temp_dir().join(format!("speldervacht-journal-{name}-{}", std::process::id()));
+        let file = OpenOptions::new().read(true).write(true).create_new(true).open(&path).unwrap();
+        fs::remove_file(path).unwrap();
+        file.set_len(world::LENGTH).unwrap();
+        file
+    }
+
+    fn insert(bytes: &[u8]) -> Change {
+        Change::Insert { address: 7, bytes: bytes.into() }
+    }
+
+    /// A journal in which both hosts had record 7.
+    fn journal() -> Journal {
+        let mut journal = Journal::default();
+        journal.begin(insert(b"new"));
+        journal.both_had();
+        journal
+    }
+
+    fn resident(dirty: bool, bytes: &[u8]) -> Resident {
+        Resident { address: 7, dirty, bytes: bytes.to_vec() }
+    }
+
+    fn lost(checked: Result<u64, Failure>) -> String {
+        match checked {
+            Err(failure @ Failure::Lost { address: 7, .. }) => failure.to_string(),
+            other => panic!("{other:?}"),
+        }
+    }
+
+    #[test]
+    fn a_dirty_record_is_read_from_memory() {
+        let (journal, file) = (journal(), world("dirty"));
+        assert_eq!(journal.check(0, &[resident(true, b"new")], &file).unwrap(), 1);
+        assert!(lost(journal.check(0, &[resident(true, b"old")], &file)).contains("in the memory of host 1"));
+    }
+
+    #[test]
+    fn a_clean_record_is_read_from_the_file() {
+        let (journal, file) = (journal(), world("clean"));
+        assert!(lost(journal.check(0, &[], &file)).contains("found no record in the file"));
+        world::put(&file, 7, &world::slot_of(b"old")).unwrap();
+        assert!(
+            lost(journal.check(0, &[resident(false, b"new")], &file)).contains("in the file, and not dirty at host 1")
+        );
+        let slot = world::slot_of(b"new");
+        world::put(&file, 7, &slot[..slot.len() - 1]).unwrap();
+        assert!(lost(journal.check(0, &[], &file)).contains("a damaged record in the file"));
+        world::put(&file, 7, &slot).unwrap();
+        assert_eq!(journal.check(0, &[], &file).unwrap(), 1);
+        lost(journal.check(0, &[resident(false, b"old")], &file));
+    }
+
+    #[test]
+    fn a_change_in_flight_counts_if_the_survivor_had_it() {
+        let file = world("flight");
+        for (had, now, before) in [(true, &b"next"[..], &b"new"[..]), (false, b"new", b"next")] {
+            let mut journal = journal();
+            let number = journal.begin(insert(b"next"));
+            journal.survived(if had { number } else { number - 1 });
+            assert_eq!((journal.kept, journal.dropped), (u64::from(had), u64::from(!had)));
+            assert_eq!(journal.check(0, &[resident(true, now)], &file).unwrap(), 1);
+            lost(journal.check(0, &[resident(true, before)], &file));
+        }
+    }
+
+    #[test]
+    fn a_discarded_record_is_gone() {
+        let mut journal = journal();
+        journal.begin(Change::Discard { address: 7 });
+        journal.both_had();
+        let file = world("discarded");
+        assert_eq!(journal.check(0, &[], &file).unwrap(), 0);
+        assert!(matches!(journal.check(0, &[resident(true, b"new")], &file), Err(Failure::Broken(_))));
+    }
+}
