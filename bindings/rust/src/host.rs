@@ -116,9 +116,10 @@ use std::{sync::Arc, vec::Vec};
 /// call: the same request may be tried again. A record leaves memory only if the store has it and was
 /// synced since.
 ///
-/// The copy takes 64 bytes for each row. It is made only where the store may be called: alone at every
-/// request that can give orders; at a lead and a standby at a miss, a flush and a sync. What a request
-/// evicts stays in memory until all its orders are carried out.
+/// The copy takes 64 bytes for each row, and about a third of the time that judging the table takes: 6
+/// microseconds at 4,096 rows. It is made only where the store may be called: alone at every request
+/// that can give orders; at a lead and a standby at a miss, a flush and a sync. What a request evicts
+/// stays in memory until all its orders are carried out.
 pub struct Host<S> {
     cache: Cache,
     memory: Memory<S>,
@@ -320,7 +321,8 @@ impl<S: Store> Host<S> {
     ///
     /// # Errors
     ///
-    /// Those of the store, if the host is alone. The releases that were not done stay to be done.
+    /// Those of the store, if the host is alone: then what was not released stays to be released.
+    /// [`Refusal::NotInCache`] or [`Refusal::NotHeld`] if a guard's hold was released by a request.
     pub fn settle(&mut self) -> Result<(), HostError<S::Error>> {
         while let Some(address) = self.releases.first() {
             match self.perform(&Request::ReleaseUnchanged { address }, None) {

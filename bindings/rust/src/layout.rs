@@ -26,7 +26,7 @@ pub(crate) const RUN_END: u64 = u64::MAX;
 
 /// The words of a row, and one in each of the two runs.
 const WORDS_FOR_EACH_ROW: usize = ROW_WORDS + 2;
-/// The words of an order, and the most orders of one request: two for each row, and one.
+/// The words of an order.
 pub(crate) const ORDER_WORDS: usize = 3;
 
 /// The words that a table with so many rows takes.
@@ -35,7 +35,7 @@ pub const fn table_words(rows: usize) -> usize {
     rows.saturating_mul(WORDS_FOR_EACH_ROW).saturating_add(HEADER_WORDS)
 }
 
-/// The words that the orders of one request may take.
+/// The words that the orders of one request may take: two orders for each row, and one.
 #[must_use]
 pub const fn order_words(rows: usize) -> usize {
     rows.saturating_mul(2 * ORDER_WORDS).saturating_add(ORDER_WORDS)

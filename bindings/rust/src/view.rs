@@ -37,7 +37,7 @@ impl Entry {
     }
 }
 
-/// A table, for reading. It costs no copy; each method says what it goes over.
+/// A table, for reading: nothing is copied, and the table is not judged again.
 #[derive(Clone, Copy)]
 pub struct View<'t> {
     words: &'t [u64],

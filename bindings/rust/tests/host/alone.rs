@@ -1,12 +1,11 @@
 //! A host alone over a store that fails: random play in which each call of each request fails once,
 //! beside a host whose store never fails, and beside what every record should be.
 
-mod support;
-
+use crate::disk::{books_agree, some_bytes, with_each_failure, Handle};
+use crate::random::Random;
 use speldervacht::{Cache, Decrease, Flash, Host, HostError, Increase, ReadGuard, Settings, WriteGuard};
 use std::collections::BTreeMap;
 use std::sync::Arc;
-use support::{books_agree, with_each_failure, Handle, Random};
 
 const ADDRESSES: usize = 24;
 const LARGEST: usize = 400;
@@ -104,7 +103,7 @@ impl Play {
     }
 
     fn some_action(&mut self) -> Option<Action> {
-        let bytes: Arc<[u8]> = self.random.record(LARGEST).into();
+        let bytes: Arc<[u8]> = some_bytes(&mut self.random, LARGEST).into();
         let kind = self.random.below(100);
         if kind < 15 {
             let address = self.random.below(ADDRESSES) as u64;
@@ -154,7 +153,7 @@ impl Play {
     /// The writer's record was changed, but its release fails, and the writer gives up.
     fn give_up(&mut self) {
         let Some(guard) = self.failing.writer.take() else { return };
-        let (address, bytes) = (guard.address(), self.random.record(LARGEST));
+        let (address, bytes) = (guard.address(), some_bytes(&mut self.random, LARGEST));
         let host = &mut self.failing.host;
         host.store().good_calls.set(Some(self.random.below(4)));
         let answer = guard.changed(host, bytes.clone()).map_err(HostError::from);
@@ -194,7 +193,8 @@ fn neither_books_nor_records_are_lost() {
         }
         // Once nothing is held, a flush makes all of it durable.
         let Player { host, readers, writer } = &mut play.failing;
-        (readers.clear(), *writer = None);
+        readers.clear();
+        *writer = None;
         with_each_failure(host, |host| host.settle()).unwrap();
         with_each_failure(host, |host| host.flush()).unwrap();
         let disk = host.store().disk.borrow();

@@ -1,30 +1,15 @@
-//! A disk that fails at a chosen call, and random numbers.
+//! A disk that fails at a chosen call, and what has to hold of a host then.
 
-use speldervacht::{Call, Host, HostError, Store};
+use crate::random::Random;
+use speldervacht::{Host, HostError, Store};
 use std::cell::{Cell, RefCell};
 use std::collections::BTreeMap;
 use std::rc::Rc;
 
-/// Random numbers from a seed, by xorshift.
-pub struct Random(u64);
-
-impl Random {
-    pub fn new(seed: u64) -> Random {
-        Random(seed.wrapping_mul(0x9e37_79b9_7f4a_7c15).max(1))
-    }
-
-    pub fn below(&mut self, n: usize) -> usize {
-        self.0 ^= self.0 << 13;
-        self.0 ^= self.0 >> 7;
-        self.0 ^= self.0 << 17;
-        (self.0.wrapping_mul(0x2545_f491_4f6c_dd1d) >> 11) as usize % n
-    }
-
-    /// A record of up to so many bytes.
-    pub fn record(&mut self, most: usize) -> Vec<u8> {
-        let first = self.below(256) as u8;
-        (0..1 + self.below(most)).map(|at| first.wrapping_add(at as u8)).collect()
-    }
+/// A record of up to so many bytes.
+pub fn some_bytes(random: &mut Random, most: usize) -> Vec<u8> {
+    let first = random.below(256) as u8;
+    (0..1 + random.below(most)).map(|at| first.wrapping_add(at as u8)).collect()
 }
 
 /// A disk: what was written is there for its writers, and durable after a sync.
@@ -32,6 +17,13 @@ impl Random {
 pub struct Disk {
     pub durable: BTreeMap<u64, Vec<u8>>,
     pending: BTreeMap<u64, Vec<u8>>,
+}
+
+impl Disk {
+    /// What was not durable is lost.
+    pub fn crash(&mut self) {
+        self.pending.clear();
+    }
 }
 
 /// A store on a disk that others may share.
@@ -132,8 +124,7 @@ pub fn with_each_failure<T>(
         match done {
             Err(HostError::Store { call, error }) => {
                 assert_eq!(call.to_string(), error, "the error names the call that failed");
-                assert!(matches!(call, Call::Size { .. } | Call::Order(_) | Call::Sync));
-                assert_eq!(state(host), before, "{error} failed, and the host is as it was");
+                assert!(state(host) == before, "{error} failed, and the host is not as it was");
             }
             answer => return answer,
         }
