@@ -7,7 +7,7 @@ use crate::referee::kill::plans;
 use crate::referee::provoke::provoke;
 use crate::referee::trace::trace;
 use crate::referee::Referee;
-use crate::report::{csv, picture, summary};
+use crate::report::{csv, picture, say, summary};
 use crate::world;
 use std::fs::{self, File, OpenOptions};
 use std::io;
@@ -17,11 +17,11 @@ use std::path::Path;
 const MOST_TOLD: u64 = 50;
 
 pub fn run(arguments: &Arguments) -> Result<(), Failure> {
-    println!(
+    say(format_args!(
         "seed {}: a lead and a standby as two processes, a world of up to {} records",
         arguments.seed,
         world::SLOTS
-    );
+    ));
     let mut referee = Referee::start(world_file(arguments)?, arguments.seed)?;
     let ended = match arguments.mistake {
         Some(mistake) => provoke(&mut referee, mistake),

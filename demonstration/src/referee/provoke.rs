@@ -6,6 +6,7 @@ use super::play::{self, Action};
 use super::Referee;
 use crate::mistake::Mistake;
 use crate::moment::Part;
+use crate::report::say;
 use crate::wire::message::Message;
 use speldervacht::Change;
 use std::time::Duration;
@@ -19,7 +20,7 @@ pub fn provoke(referee: &mut Referee, mistake: Mistake) -> Result<(), Failure> {
     for _ in 0..BEFORE {
         referee.play(true)?;
     }
-    println!("after {} steps, on purpose: {}", referee.step, mistake.text());
+    say(format_args!("after {} steps, on purpose: {}", referee.step, mistake.text()));
     match mistake {
         Mistake::DropList => {
             err(referee, Part::Standby, mistake)?;
@@ -44,7 +45,7 @@ pub fn provoke(referee: &mut Referee, mistake: Mistake) -> Result<(), Failure> {
             referee.perform(Action::Change(Change::ReleaseChanged { address, bytes }))?;
         }
     }
-    println!("the lead is killed");
+    say("the lead is killed");
     let kill = Kill::Later { victim: Part::Lead, delay: Duration::ZERO };
     referee.kill_amid(Action::LetGo { place: 1 - referee.lead }, kill, None)?;
     Err(broken("the mistake was not noticed"))

@@ -6,6 +6,7 @@ use super::play::{self, Action};
 use super::process::Note;
 use super::Referee;
 use crate::moment::Moment;
+use crate::report::say;
 
 /// Steps before the move, and the changes before each of the two.
 const BEFORE: u64 = 300;
@@ -17,18 +18,18 @@ pub fn trace(referee: &mut Referee) -> Result<(), Failure> {
     }
     make_ready(referee)?;
     referee.hosts.trace()?;
-    println!("\na move: host {} leads, host {} stands by", referee.lead + 1, 2 - referee.lead);
+    say(format_args!("\na move: host {} leads, host {} stands by", referee.lead + 1, 2 - referee.lead));
     referee.perform(Action::Move)?;
     print(&referee.hosts.end_trace()?);
 
     make_ready(referee)?;
     referee.hosts.trace()?;
-    println!("\na lost lead: host {} leads, host {} stands by", referee.lead + 1, 2 - referee.lead);
+    say(format_args!("\na lost lead: host {} leads, host {} stands by", referee.lead + 1, 2 - referee.lead));
     let kill = Kill::At { moment: Moment::AmidWrites, after: 2 };
     referee.kill_amid(Action::Flush, kill, None)?;
     print(&referee.hosts.end_trace()?);
     referee.check_both()?;
-    println!("\n{} records checked; none is lost", referee.course.checked);
+    say(format_args!("\n{} records checked; none is lost", referee.course.checked));
     Ok(())
 }
 
@@ -46,6 +47,6 @@ fn print(notes: &[Note]) {
     let began = notes.first().map_or(0, |note| note.time);
     for note in notes {
         let who = note.place.map_or("referee".to_string(), |place| format!("host {}", place + 1));
-        println!("{:9.3} ms  {who:7}  {}", (note.time - began) as f64 / 1_000.0, note.text);
+        say(format_args!("{:9.3} ms  {who:7}  {}", (note.time - began) as f64 / 1_000.0, note.text));
     }
 }
