@@ -192,7 +192,7 @@ impl HostProcess {
             Message::Join { pair } => self.join(pair)?,
             Message::BringIn => self.bring_in()?,
             Message::Play { number, change } => self.share(number, &change)?,
-            Message::Read { address, keep, pin } => self.read(address, keep, pin)?,
+            Message::Read { address, keep, pin } => return self.read(address, keep, pin),
             Message::LetGo => self.let_go()?,
             Message::Flush => return self.send_list(true).map(|addresses| Message::Listed { addresses }),
             Message::Sync => return self.send_list(false).map(|addresses| Message::Listed { addresses }),

@@ -97,7 +97,7 @@ impl Referee {
     pub fn perform(&mut self, action: Action) -> Result<(), Failure> {
         let (place, message) = self.begin(action);
         let answer = self.hosts.request(place, &message)?;
-        self.done(answer);
+        self.done(place, answer)?;
         self.sample()
     }
 
@@ -126,9 +126,10 @@ impl Referee {
     }
 
     /// What is known once an action was answered.
-    fn done(&mut self, answer: Message) {
+    fn done(&mut self, place: usize, answer: Message) -> Result<(), Failure> {
         match answer {
             Message::Done => self.journal.both_had(),
+            Message::Contents { address, bytes } => self.journal.check_read(place, address, &bytes)?,
             Message::Listed { addresses } => {
                 self.course.lists += 1;
                 self.course.longest_list = self.course.longest_list.max(addresses.len() as u64);
@@ -139,6 +140,7 @@ impl Referee {
             }
             _ => {}
         }
+        Ok(())
     }
 
     /// The figures of both hosts after a step.

@@ -2,6 +2,7 @@
 
 use super::store::WorldFile;
 use super::{Failure, HostProcess};
+use crate::wire::message::Message;
 use speldervacht::{Host, HostError, Refusal};
 use std::io;
 
@@ -47,19 +48,20 @@ impl HostProcess {
     }
 
     /// Reads a record. If there is no row for it, it is left.
-    pub(super) fn read(&mut self, address: u64, keep: bool, pin: bool) -> Result<(), Failure> {
+    pub(super) fn read(&mut self, address: u64, keep: bool, pin: bool) -> Result<Message, Failure> {
         let guard = match self.until_done("a read", |host| host.read(address)) {
-            Err(Failure::Refused { number, .. }) if number == Refusal::NoRow.number() => return Ok(()),
+            Err(Failure::Refused { number, .. }) if number == Refusal::NoRow.number() => return Ok(Message::Done),
             guard => guard?,
         };
         if pin && self.pins.len() < MOST_KEPT && !self.pins.contains(&address) {
             self.host.pin(address).map_err(|error| self.failure("a pin", error))?;
             self.pins.insert(address);
         }
+        let contents = Message::Contents { address, bytes: guard.to_vec() };
         if keep && self.readers.len() < MOST_KEPT {
             self.readers.push_back(guard);
         }
-        Ok(())
+        Ok(contents)
     }
 
     pub(super) fn let_go(&mut self) -> Result<(), Failure> {

@@ -62,6 +62,18 @@ impl Journal {
         }
     }
 
+    /// A record that a host has read is as it should be.
+    pub fn check_read(&self, place: usize, address: u64, read: &[u8]) -> Result<(), Failure> {
+        match self.records.get(&address) {
+            Some(expected) if expected[..] == *read => Ok(()),
+            expected => Err(Failure::Lost {
+                address,
+                expected: expected.map_or("no record".into(), |expected| told(expected)),
+                found: format!("{} as host {} read it", told(read), place + 1),
+            }),
+        }
+    }
+
     /// Each record reads back as it should from where the host would get it: from its memory if it is dirty
     /// there, else from the file. Answers how many were checked.
     pub fn check(&self, place: usize, memory: &[Resident], file: &File) -> Result<u64, Failure> {
@@ -160,6 +172,13 @@ mod tests {
             assert_eq!(journal.check(0, &[resident(true, now)], &file).unwrap(), 1);
             lost(journal.check(0, &[resident(true, before)], &file));
         }
+    }
+
+    #[test]
+    fn what_a_host_reads_is_compared() {
+        let journal = journal();
+        journal.check_read(0, 7, b"new").unwrap();
+        assert!(lost(journal.check_read(0, 7, b"old").map(|()| 0)).contains("as host 1 read it"));
     }
 
     #[test]

@@ -95,7 +95,7 @@ impl Referee {
                 Heard::Ended(from) => return Err(broken(format!("host {} ended by itself", from + 1))),
                 Heard::Said(_, Message::Refused { text, .. }) => return Err(Failure::Refused(text)),
                 Heard::Said(from, answer) if from == place => {
-                    self.done(answer);
+                    self.done(place, answer)?;
                     answered = true;
                 }
                 Heard::Said(..) => {}

@@ -97,6 +97,11 @@ pub enum Message {
         last: u64,
         records: Vec<Resident>,
     },
+    /// A record as it was read.
+    Contents {
+        address: u64,
+        bytes: Vec<u8>,
+    },
     /// The other host is gone.
     Alone,
     /// Stopped at the moment that was named.
@@ -169,6 +174,10 @@ impl Message {
                     out.run(&record.bytes);
                 }
             }
+            Message::Contents { address, bytes } => {
+                words(&mut out, &[28, *address]);
+                out.run(bytes);
+            }
             Message::Alone => words(&mut out, &[19]),
             Message::Stopped => words(&mut out, &[20]),
             Message::Note { time, text } => {
@@ -238,6 +247,7 @@ impl Message {
             25 => Message::Switch,
             26 => Message::Done,
             27 => Message::Refused { number: from.word()?, text: from.text()? },
+            28 => Message::Contents { address: from.word()?, bytes: from.run()?.to_vec() },
             _ => return Err(damaged()),
         })
     }
