@@ -57,14 +57,14 @@ impl Referee {
             began: Instant::now(),
             figures: Figures::default(),
         };
-        referee.lead(0)?;
+        referee.begin_pair(0)?;
         referee.join(1)?;
         referee.hosts.request(0, &Message::BringIn)?;
         Ok(referee)
     }
 
     /// The host at the place leads a new pair.
-    fn lead(&mut self, place: usize) -> Result<(), Failure> {
+    fn begin_pair(&mut self, place: usize) -> Result<(), Failure> {
         self.pair += 1;
         self.lead = place;
         self.hosts.request(place, &Message::Lead { pair: self.pair }).map(drop)

@@ -11,6 +11,14 @@ use crate::wire::message::Message;
 use std::thread::sleep;
 use std::time::Instant;
 
+/// A kill that was done: how and amid what, where the host was, and when.
+struct Done {
+    kill: Kill,
+    amid: &'static str,
+    victim: usize,
+    at: Instant,
+}
+
 impl Referee {
     /// Kills a host: at the moment, or at a random time if there is none. Answers how many kills it took.
     pub fn kill(&mut self, moment: Option<Moment>, left: u64) -> Result<u64, Failure> {
@@ -60,13 +68,13 @@ impl Referee {
     pub fn kill_amid(&mut self, action: Action, kill: Kill, then: Option<Kill>) -> Result<(), Failure> {
         let amid = action.text();
         let (place, message) = self.begin(action);
-        let victim = self.strike(place, &message, kill)?;
-        self.recover(victim, kill, amid, then)?;
+        let done = self.strike(place, &message, kill, amid)?;
+        self.recover(done, then)?;
         self.sample()
     }
 
-    /// Has a host do something, and kills the victim amid it. Answers where the victim was.
-    fn strike(&mut self, place: usize, message: &Message, kill: Kill) -> Result<usize, Failure> {
+    /// Has a host do something, and kills the victim amid it.
+    fn strike(&mut self, place: usize, message: &Message, kill: Kill, amid: &'static str) -> Result<Done, Failure> {
         let victim = self.place_of(kill.victim());
         if let Kill::At { moment, after } = kill {
             self.hosts.request(victim, &Message::Stop { moment, after })?;
@@ -81,9 +89,10 @@ impl Referee {
             Kill::Later { delay, .. } => sleep(delay),
         }
         self.hosts.note(|| format!("kills host {} by SIGKILL", victim + 1));
+        let at = Instant::now();
         self.hosts.kill(victim)?;
         self.hear_out(place, victim)?;
-        Ok(victim)
+        Ok(Done { kill, amid, victim, at })
     }
 
     /// What the victim said before its end, and what the survivor answers if it was to do something.
@@ -105,47 +114,40 @@ impl Referee {
     }
 
     /// The survivor is checked, leads, and brings in what is dirty there; a new host joins it.
-    fn recover(
-        &mut self,
-        mut victim: usize,
-        mut kill: Kill,
-        mut amid: &str,
-        mut then: Option<Kill>,
-    ) -> Result<(), Failure> {
+    fn recover(&mut self, mut done: Done, mut then: Option<Kill>) -> Result<(), Failure> {
         loop {
-            let killed = Instant::now();
-            let survivor = 1 - victim;
+            let survivor = 1 - done.victim;
             let (dirty, checked) = self.check_survivor(survivor)?;
-            self.lead(survivor)?;
-            let safe = killed.elapsed();
-            self.hosts.replace(victim)?;
-            self.join(victim)?;
+            self.begin_pair(survivor)?;
+            let safe = done.at.elapsed();
+            self.hosts.replace(done.victim)?;
+            self.join(done.victim)?;
             self.course.losses.push(Loss {
                 step: self.step,
-                place: victim,
-                part: kill.victim(),
-                moment: kill.text(amid),
-                chosen: matches!(kill, Kill::At { .. }),
+                place: done.victim,
+                part: done.kill.victim(),
+                moment: done.kill.text(done.amid),
+                chosen: matches!(done.kill, Kill::At { .. }),
                 dirty,
                 checked,
                 safe,
                 recovered: None,
             });
-            match then.take().filter(|_| dirty > 0) {
-                Some(next) => {
-                    (kill, amid) = (self.amid_catching_up(next, dirty), "catching up");
-                    victim = self.strike(survivor, &Message::BringIn, kill)?;
-                }
-                None => {
-                    self.hosts.request(survivor, &Message::BringIn)?;
-                    self.hosts.note(|| "the play goes on".into());
-                    if let Some(loss) = self.course.losses.last_mut() {
-                        loss.recovered = Some(killed.elapsed());
-                    }
-                    return Ok(());
-                }
-            }
+            let Some(next) = then.take().filter(|_| dirty > 0) else {
+                return self.bring_in(survivor, done.at);
+            };
+            let next = self.amid_catching_up(next, dirty);
+            done = self.strike(survivor, &Message::BringIn, next, "catching up")?;
         }
+    }
+
+    fn bring_in(&mut self, survivor: usize, killed: Instant) -> Result<(), Failure> {
+        self.hosts.request(survivor, &Message::BringIn)?;
+        self.hosts.note(|| "the play goes on".into());
+        if let Some(loss) = self.course.losses.last_mut() {
+            loss.recovered = Some(killed.elapsed());
+        }
+        Ok(())
     }
 
     /// The kill, after a random number of the records that are to be brought in.
