@@ -22,7 +22,7 @@ const MOST_POINTS: usize = 1_640;
 type Panel = (&'static str, fn(&Figures) -> u64);
 
 const PANELS: [Panel; 3] = [
-    ("dirty bytes", |figures| figures.dirty),
+    ("dirty bytes (host 1 wide, host 2 upon it)", |figures| figures.dirty),
     ("held bytes", |figures| figures.held),
     ("maximum", |figures| figures.maximum),
 ];
@@ -67,7 +67,7 @@ fn draw(course: &Course, title: &str) -> Result<String, fmt::Error> {
 fn legend(out: &mut String, title: &str) -> fmt::Result {
     writeln!(out, "<text x='{LEFT}' y='24' style='font-size:14px'>{title}</text>")?;
     let items = [
-        ("host1 wide", "host 1"),
+        ("host1 thin", "host 1"),
         ("host2 thin", "host 2"),
         ("move", "move"),
         ("lead", "lead killed"),

@@ -25,13 +25,9 @@ pub fn print(course: &Course, journal: &Journal, took: Duration) {
         "{created} created, {changed} changed, {resized} resized, {discarded} discarded, {} read",
         course.reads
     ));
-    say(format_args!("{} changes that both hosts had", journal.both));
-    say(format_args!(
-        "{} changes in flight at a kill: the survivor had {}, and had not {}",
-        journal.kept + journal.dropped,
-        journal.kept,
-        journal.dropped
-    ));
+    say(format_args!("changes that both hosts had: {}", journal.both));
+    let in_flight = journal.kept + journal.dropped;
+    say(format_args!("changes in flight at a kill: {in_flight}; the survivor had {} of them", journal.kept));
     say(format_args!("{} lists, the longest with {} records", course.lists, course.longest_list));
     say(format_args!("what is dirty was the same at both hosts after {} of {steps} steps", steps - course.differing()));
     print_moves(course);
