@@ -15,6 +15,7 @@ use control::Control;
 use speldervacht::{Cache, Decrease, Flash, Host, HostError, Increase, List, Mode, ReadGuard, Refusal, Settings};
 use std::collections::{BTreeMap, BTreeSet, VecDeque};
 use std::error::Error;
+use std::fmt::Display;
 use std::fs::File;
 use std::io;
 use std::os::fd::AsFd;
@@ -58,7 +59,7 @@ enum Event {
 
 /// Why a host did not do what it was told.
 enum Failure {
-    /// This host or the other refuses: the library's number, or 0 for a failure of the store, and words.
+    /// This host or the other refuses: the library's number, and words. 0 is another failure.
     Refused { number: u64, text: String },
     /// The other host is gone.
     Alone,
@@ -196,13 +197,13 @@ impl HostProcess {
             Message::LetGo => self.let_go()?,
             Message::Flush => return self.send_list(true).map(|addresses| Message::Listed { addresses }),
             Message::Sync => return self.send_list(false).map(|addresses| Message::Listed { addresses }),
-            Message::Move => return self.move_world().map(Message::Moved),
+            Message::Move => return self.move_world().map(|times| Message::Moved { times }),
             Message::Report => return self.figures(),
             Message::Tell => return Ok(self.told()),
             Message::Stop { moment, after } => self.control.stop_later(moment, after),
-            Message::Err { mistake } => self.control.err_later(mistake),
+            Message::MakeMistake { mistake } => self.control.plan_mistake(mistake),
             Message::Trace { on } => self.control.trace(on),
-            other => return Err(self.refused("a message", 0, format!("{other:?} is not for a host"))),
+            other => return Err(self.failed("a message", format!("{other:?} is not for a host"))),
         }
         Ok(Message::Done)
     }
@@ -228,18 +229,23 @@ impl HostProcess {
 
     // ---- refusals
 
-    fn refused(&self, what: &str, number: u64, text: String) -> Failure {
-        Failure::Refused { number, text: format!("host {} refuses {what}: {text}", self.place + 1) }
+    /// The library refuses.
+    fn refusal(&self, what: &str, refusal: Refusal) -> Failure {
+        Failure::Refused {
+            number: refusal.number(),
+            text: format!("host {} refuses {what}: {refusal}", self.place + 1),
+        }
     }
 
-    fn refusal(&self, what: &str, refusal: Refusal) -> Failure {
-        self.refused(what, refusal.number(), refusal.to_string())
+    /// Something else fails.
+    fn failed(&self, what: &str, error: impl Display) -> Failure {
+        Failure::Refused { number: 0, text: format!("host {} fails at {what}: {error}", self.place + 1) }
     }
 
     fn failure(&self, what: &str, error: HostError<io::Error>) -> Failure {
         match error {
             HostError::Refused(refusal) => self.refusal(what, refusal),
-            failed => self.refused(what, 0, failed.to_string()),
+            other => self.failed(what, other),
         }
     }
 
@@ -248,14 +254,15 @@ impl HostProcess {
     fn figures(&mut self) -> Result<Message, Failure> {
         self.host.settle().map_err(|error| self.failure("a release", error))?;
         let report = self.host.report().map_err(|refusal| self.refusal("a report", refusal))?;
-        Ok(Message::Figures(Figures {
+        let figures = Figures {
             dirty: report.dirty,
             held: report.held,
             maximum: report.maximum,
             count: report.count,
             due: report.due,
             records: self.host.dirty().count() as u64,
-        }))
+        };
+        Ok(Message::Reported { figures })
     }
 
     fn told(&self) -> Message {

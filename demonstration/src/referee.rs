@@ -125,7 +125,7 @@ impl Referee {
         }
     }
 
-    /// What is known once an action was answered.
+    /// What is known once an action was answered. A host that finds itself alone has not done it.
     fn done(&mut self, place: usize, answer: Message) -> Result<(), Failure> {
         match answer {
             Message::Done => self.journal.both_had(),
@@ -134,11 +134,12 @@ impl Referee {
                 self.course.lists += 1;
                 self.course.longest_list = self.course.longest_list.max(addresses.len() as u64);
             }
-            Message::Moved(times) => {
+            Message::Moved { times } => {
                 self.lead = 1 - self.lead;
                 self.course.moves.push(Move { step: self.step, times });
             }
-            _ => {}
+            Message::Alone => {}
+            other => return Err(broken(format!("host {} answers {other:?}", place + 1))),
         }
         Ok(())
     }
@@ -147,9 +148,10 @@ impl Referee {
     fn sample(&mut self) -> Result<(), Failure> {
         let mut figures = [Figures::default(); 2];
         for (place, of_host) in figures.iter_mut().enumerate() {
-            if let Message::Figures(told) = self.hosts.request(place, &Message::Report)? {
-                *of_host = told;
-            }
+            *of_host = match self.hosts.request(place, &Message::Report)? {
+                Message::Reported { figures } => figures,
+                other => return Err(broken(format!("host {} reports {other:?}", place + 1))),
+            };
         }
         self.figures = figures[self.lead];
         let sample = Sample { step: self.step, time: self.began.elapsed(), lead: self.lead, figures };

@@ -12,7 +12,10 @@ use crate::world;
 use std::fs::{self, File, OpenOptions};
 use std::io;
 use std::path::Path;
+use std::time::Duration;
 
+/// A run that takes longer is ended.
+const LONGEST: Duration = Duration::from_secs(600);
 /// A run of more kills tells only some of them.
 const MOST_TOLD: u64 = 50;
 
@@ -83,6 +86,9 @@ fn play_and_kill(referee: &mut Referee, steps: u64, kills: u64) -> Result<(), Fa
     let mut plans = plans(&mut referee.random, kills).into_iter();
     let (mut left, mut told) = (kills, 0);
     while referee.step < steps || left > 0 {
+        if referee.elapsed() > LONGEST {
+            return Err(broken(format!("the run takes longer than {} s", LONGEST.as_secs())));
+        }
         let steps_left = steps.saturating_sub(referee.step).max(1);
         if referee.random.below(steps_left) >= left {
             referee.play(true)?;

@@ -2,7 +2,8 @@
 
 use crate::mistake::Mistake;
 use crate::moment::Moment;
-use crate::wire::message::{self, Message};
+use crate::wire::message::Message;
+use crate::wire::now;
 use std::cell::Cell;
 use std::io;
 use std::os::unix::net::UnixStream;
@@ -32,7 +33,7 @@ impl Control {
     pub fn note(&self, text: impl FnOnce() -> String) {
         if self.tracing.get() {
             // If the referee is gone, so is this process.
-            let _ = self.send(&Message::Note { time: message::now(), text: text() });
+            let _ = self.send(&Message::Note { time: now(), text: text() });
         }
     }
 
@@ -70,20 +71,20 @@ impl Control {
 
     // ---- mistakes
 
-    pub fn err_later(&self, mistake: Mistake) {
+    pub fn plan_mistake(&self, mistake: Mistake) {
         self.mistake.set(Some(mistake));
     }
 
-    pub fn errs(&self, mistake: Mistake) -> bool {
+    pub fn makes(&self, mistake: Mistake) -> bool {
         self.mistake.get() == Some(mistake)
     }
 
     /// Whether this mistake is made now; it is made once.
-    pub fn errs_once(&self, mistake: Mistake) -> bool {
-        let errs = self.errs(mistake);
-        if errs {
+    pub fn makes_once(&self, mistake: Mistake) -> bool {
+        let makes = self.makes(mistake);
+        if makes {
             self.mistake.set(None);
         }
-        errs
+        makes
     }
 }

@@ -16,14 +16,14 @@ impl HostProcess {
         self.waiting.extend(self.host.dirty().map(|(address, bytes)| (address, bytes.clone())));
         for (address, bytes) in &self.waiting {
             let written = self.host.store_mut().write(*address, bytes);
-            written.map_err(|error| self.refused("a write", 0, error.to_string()))?;
+            written.map_err(|error| self.failed("a write", error))?;
         }
         let synced = self.host.store_mut().sync();
-        synced.map_err(|error| self.refused("a sync", 0, error.to_string()))?;
+        synced.map_err(|error| self.failed("a sync", error))?;
         self.link = None;
         self.pair = pair;
         self.open(Mode::Lead)?;
-        self.listener = Some(socket::listen(pair)?);
+        self.listener = Some(socket::listen(pair).map_err(|error| self.failed("listening", error))?);
         Ok(())
     }
 
@@ -94,7 +94,7 @@ impl HostProcess {
     /// A flush or a sync, whose list the standby takes: the addresses written.
     pub(super) fn send_list(&mut self, flush: bool) -> Result<Vec<u64>, Failure> {
         let list = self.write_out(flush)?;
-        if !list.addresses().is_empty() && self.control.errs_once(Mistake::Reorder) {
+        if !list.addresses().is_empty() && self.control.makes_once(Mistake::Reorder) {
             self.kept_back = Some(list.clone());
         } else {
             self.deliver(&list)?;
@@ -105,7 +105,8 @@ impl HostProcess {
     /// Writes every dirty record, or enough of them, and syncs the file. A flush wants that nothing is held.
     fn write_out(&mut self, flush: bool) -> Result<List, Failure> {
         self.stop_writing()?;
-        self.control.note(|| format!("has {} dirty records and writes them", self.host.dirty().count()));
+        let kind = if flush { "flush" } else { "sync" };
+        self.control.note(|| format!("begins a {kind} with {} dirty records", self.host.dirty().count()));
         let list = if flush {
             self.readers.clear();
             self.host.flush()

@@ -12,7 +12,8 @@ impl HostProcess {
     pub(super) fn join(&mut self, pair: u64) -> Result<(), Failure> {
         self.pair = pair;
         self.open(Mode::Standby)?;
-        self.connect(socket::connect(pair)?)
+        let link = socket::connect(pair).map_err(|error| self.failed("joining", error))?;
+        self.connect(link)
     }
 
     /// Does what the lead says.
@@ -30,14 +31,14 @@ impl HostProcess {
                 self.open(Mode::Lead)?;
                 self.control.stop_at(Moment::Switched);
             }
-            other => return Err(self.refused("a message", 0, format!("{other:?} is not for a standby"))),
+            other => return Err(self.failed("a message", format!("{other:?} is not for a standby"))),
         }
         Ok(Message::Done)
     }
 
     fn take(&mut self, list: List) -> Result<(), Failure> {
         self.control.stop_at(Moment::BeforeTake);
-        if self.control.errs(Mistake::DropList) {
+        if self.control.makes(Mistake::DropList) {
             return Ok(());
         }
         self.host.take(&list).map_err(|error| self.failure("a list", error))?;
@@ -47,7 +48,7 @@ impl HostProcess {
 
     /// By mistake, the record that was just changed is dropped.
     fn forget(&mut self, change: &Change) -> Result<(), Failure> {
-        if change.bytes().is_some() && self.control.errs_once(Mistake::EvictDirty) {
+        if change.bytes().is_some() && self.control.makes_once(Mistake::EvictDirty) {
             let dropped = self.host.discard(change.address());
             dropped.map_err(|error| self.failure("a discard", error))?;
         }

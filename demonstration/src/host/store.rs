@@ -39,7 +39,7 @@ impl Store for WorldFile {
             self.control.stop();
         }
         let differs = || world::get(&self.file, address).map_or(true, |record| record != bytes);
-        if self.control.errs(Mistake::SkipWrite) && differs() && self.control.errs_once(Mistake::SkipWrite) {
+        if self.control.makes(Mistake::SkipWrite) && differs() && self.control.makes_once(Mistake::SkipWrite) {
             return Ok(());
         }
         world::put(&self.file, address, &slot)?;

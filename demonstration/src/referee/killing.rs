@@ -12,7 +12,7 @@ use std::thread::sleep;
 use std::time::Instant;
 
 /// A kill that was done: how and amid what, where the host was, and when.
-struct Done {
+struct Struck {
     kill: Kill,
     amid: &'static str,
     victim: usize,
@@ -68,13 +68,13 @@ impl Referee {
     pub fn kill_amid(&mut self, action: Action, kill: Kill, then: Option<Kill>) -> Result<(), Failure> {
         let amid = action.text();
         let (place, message) = self.begin(action);
-        let done = self.strike(place, &message, kill, amid)?;
-        self.recover(done, then)?;
+        let struck = self.strike(place, &message, kill, amid)?;
+        self.recover(struck, then)?;
         self.sample()
     }
 
     /// Has a host do something, and kills the victim amid it.
-    fn strike(&mut self, place: usize, message: &Message, kill: Kill, amid: &'static str) -> Result<Done, Failure> {
+    fn strike(&mut self, place: usize, message: &Message, kill: Kill, amid: &'static str) -> Result<Struck, Failure> {
         let victim = self.place_of(kill.victim());
         if let Kill::At { moment, after } = kill {
             self.hosts.request(victim, &Message::Stop { moment, after })?;
@@ -92,7 +92,7 @@ impl Referee {
         let at = Instant::now();
         self.hosts.kill(victim)?;
         self.hear_out(place, victim)?;
-        Ok(Done { kill, amid, victim, at })
+        Ok(Struck { kill, amid, victim, at })
     }
 
     /// What the victim said before its end, and what the survivor answers if it was to do something.
@@ -114,30 +114,30 @@ impl Referee {
     }
 
     /// The survivor is checked, leads, and brings in what is dirty there; a new host joins it.
-    fn recover(&mut self, mut done: Done, mut then: Option<Kill>) -> Result<(), Failure> {
+    fn recover(&mut self, mut struck: Struck, mut then: Option<Kill>) -> Result<(), Failure> {
         loop {
-            let survivor = 1 - done.victim;
+            let survivor = 1 - struck.victim;
             let (dirty, checked) = self.check_survivor(survivor)?;
             self.begin_pair(survivor)?;
-            let safe = done.at.elapsed();
-            self.hosts.replace(done.victim)?;
-            self.join(done.victim)?;
+            let safe = struck.at.elapsed();
+            self.hosts.replace(struck.victim)?;
+            self.join(struck.victim)?;
             self.course.losses.push(Loss {
                 step: self.step,
-                place: done.victim,
-                part: done.kill.victim(),
-                moment: done.kill.text(done.amid),
-                chosen: matches!(done.kill, Kill::At { .. }),
+                place: struck.victim,
+                part: struck.kill.victim(),
+                moment: struck.kill.text(struck.amid),
+                chosen: matches!(struck.kill, Kill::At { .. }),
                 dirty,
                 checked,
                 safe,
                 recovered: None,
             });
             let Some(next) = then.take().filter(|_| dirty > 0) else {
-                return self.bring_in(survivor, done.at);
+                return self.bring_in(survivor, struck.at);
             };
             let next = self.amid_catching_up(next, dirty);
-            done = self.strike(survivor, &Message::BringIn, next, "catching up")?;
+            struck = self.strike(survivor, &Message::BringIn, next, "catching up")?;
         }
     }
 

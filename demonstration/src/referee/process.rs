@@ -1,7 +1,8 @@
 //! The two host processes, as their parent has them.
 
 use super::failure::{broken, Failure};
-use crate::wire::message::{self, Message};
+use crate::wire::message::Message;
+use crate::wire::now;
 use std::fs::File;
 use std::io;
 use std::os::fd::OwnedFd;
@@ -135,6 +136,7 @@ impl Hosts {
         self.send(place, message)?;
         match self.hear()? {
             Heard::Said(_, Message::Refused { text, .. }) => Err(Failure::Refused(text)),
+            Heard::Said(from, Message::Alone) => Err(broken(format!("host {} finds the other one gone", from + 1))),
             Heard::Said(from, answer) if from == place => Ok(answer),
             Heard::Said(from, answer) => Err(broken(format!("host {} says {answer:?}", from + 1))),
             Heard::Ended(ended) => Err(broken(format!("host {} ended by itself", ended + 1))),
@@ -164,7 +166,7 @@ impl Hosts {
     /// Notes what the referee does.
     pub fn note(&mut self, text: impl FnOnce() -> String) {
         if self.tracing {
-            self.notes.push(Note { time: message::now(), place: None, text: text() });
+            self.notes.push(Note { time: now(), place: None, text: text() });
         }
     }
 }

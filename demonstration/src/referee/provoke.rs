@@ -23,23 +23,23 @@ pub fn provoke(referee: &mut Referee, mistake: Mistake) -> Result<(), Failure> {
     say(format_args!("after {} steps, on purpose: {}", referee.step, mistake.text()));
     match mistake {
         Mistake::DropList => {
-            err(referee, Part::Standby, mistake)?;
+            plan(referee, Part::Standby, mistake)?;
             for _ in 0..AFTER {
                 referee.play(false)?;
             }
         }
         Mistake::SkipWrite => {
             change(referee)?;
-            err(referee, Part::Lead, mistake)?;
+            plan(referee, Part::Lead, mistake)?;
             referee.perform(Action::Flush)?;
         }
         Mistake::EvictDirty => {
-            err(referee, Part::Standby, mistake)?;
+            plan(referee, Part::Standby, mistake)?;
             change(referee)?;
         }
         Mistake::Reorder => {
             let address = change(referee)?;
-            err(referee, Part::Lead, mistake)?;
+            plan(referee, Part::Lead, mistake)?;
             referee.perform(Action::Flush)?;
             let bytes = play::contents(&mut referee.random);
             referee.perform(Action::Change(Change::ReleaseChanged { address, bytes }))?;
@@ -51,9 +51,9 @@ pub fn provoke(referee: &mut Referee, mistake: Mistake) -> Result<(), Failure> {
     Err(broken("the mistake was not noticed"))
 }
 
-fn err(referee: &mut Referee, part: Part, mistake: Mistake) -> Result<(), Failure> {
+fn plan(referee: &mut Referee, part: Part, mistake: Mistake) -> Result<(), Failure> {
     let place = referee.place_of(part);
-    referee.hosts.request(place, &Message::Err { mistake }).map(drop)
+    referee.hosts.request(place, &Message::MakeMistake { mistake }).map(drop)
 }
 
 /// A change that leaves a record: its address.

@@ -16,11 +16,6 @@ impl Writer {
         self.bytes.extend(word.to_be_bytes());
     }
 
-    pub fn words(&mut self, words: &[u64]) {
-        self.word(words.len() as u64);
-        words.iter().for_each(|word| self.word(*word));
-    }
-
     pub fn run(&mut self, run: &[u8]) {
         self.word(run.len() as u64);
         self.bytes.extend(run);
@@ -54,17 +49,9 @@ impl<'a> Reader<'a> {
         Ok(u64::from_be_bytes(word.try_into().map_err(|_| damaged())?))
     }
 
-    pub fn words(&mut self) -> io::Result<Vec<u64>> {
-        (0..self.word()?).map(|_| self.word()).collect()
-    }
-
     pub fn run(&mut self) -> io::Result<&'a [u8]> {
         let length = self.word()?;
         self.cut(length as usize)
-    }
-
-    pub fn text(&mut self) -> io::Result<String> {
-        Ok(String::from_utf8_lossy(self.run()?).into_owned())
     }
 }
 
