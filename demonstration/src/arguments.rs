@@ -11,7 +11,7 @@ SIGKILL at chosen and random moments. After each kill the survivor goes on, a ne
 record is checked that both hosts had.
 
   --kills N        kill a host N times (36)
-  --seed N         the seed of the play and of the kills (1)
+  --seed N         the seed of the play and of the kills (1); what a random kill meets differs from run to run
   --steps N        steps of play (100 for each kill, at least 1000)
   --folder FOLDER  keep the world's file there; else it is gone with the run
   --trace          tell one move and one lost lead line by line, with times, and nothing else
