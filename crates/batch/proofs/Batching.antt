@@ -1,27 +1,45 @@
 -- A batch from where it stands: what is done so far, and the rest by the same rule, come to the whole.
-use Prim.Native.Nat.{ℕ, suc, _+_, _*_, _<_, _≤_}
+use Prim.Native.Nat.{ℕ, suc, _+_, _*_, _-_, _<_, _≤_}
 use mathlib.Core.Bool.{true, false}
-use mathlib.Core.List.{List, [], _∷_, _++_, append-assoc}
-use mathlib.Core.Path.{_≡_, refl, sym, ap, _∙_}
+use mathlib.Core.List.{List, [], _∷_, _++_, append-assoc, append-nil}
+use mathlib.Core.Option.{Option}
+use mathlib.Core.Path.{_≡_, refl, sym, ap, subst, _∙_}
 use native.Mathlib.Numerals.{add-one}
 use native.Mathlib.Omega.{arith}
-use lib.ListN.{length, getD, take, drop, set, take-append-drop, length-append, length-drop, length-set}
-use lib.Seq.{length-take-le, take-append-add, drop-append-add, take-suc-set, drop-set-lt, drop-drop}
-use borrow.Author.Tests.{lt-ltb, le-ltb}
+use lib.ListN.{length, getD, take, drop, set, take-append-drop, length-append, length-drop, length-set, drop-of-length-le}
+use lib.Seq.{length-take-le, take-all, take-append-add, drop-append-add, take-suc-set, drop-set-lt, drop-drop}
+use borrow.Author.Tests.{lt-ltb, le-ltb, eq-eqb, ne-eqb}
+use borrow.Rule.Slice.PartMut.{putMid}
+use Rattle.rules.specs.declared.answer.Answer.{Answer}
 use Rattle.rules.specs.declared.answer.Refusal.the-variants as refusal
 use Rattle.rules.specs.declared.answer.Verdict.{Verdict}
 use Rattle.rules.specs.declared.answer.Verdict.the-variants as verdict
+use Rattle.rules.specs.declared.request.Request.{Request}
 use Rattle.rules.specs.Answers.{answerNumber, answerOrders}
 use Rattle.judge.specs.Verdict.{judgeWords}
-use Rattle.cache.specs.Tables.{Left}
-use Rattle.numbers.specs.Meanings.{plainOf}
-use Rattle.batch.specs.Batch.{After, after, doneWith, lacksWords, stopped, before, oneByOne}
+use Rattle.cache.specs.Tables.{Left, left}
+use Rattle.numbers.specs.Answers.{answerNumbers}
+use Rattle.numbers.specs.Meanings.{asked, plainOf}
+use Rattle.numbers.specs.declared.raw.RawAnswer.{RawAnswer}
+use Rattle.batch.proofs.Plain.{plain-floats, still-passes, orders-fit, lacking-same}
+use Rattle.batch.specs.Batch.{After, after, doneWith, lacksWords, stopped, before, oneByOne, batchWords}
+
+-- ---- judging
+
+module _ (table orders requests answers : List ℕ) where
+  pub batch-damaged : judgeWords table ≡ false → stopped (verdict.Refused refusal.Table) table orders answers ≡ batchWords table orders requests answers
+  unfolding batchWords
+  batch-damaged v = rw v
+
+  pub batch-passes : judgeWords table ≡ true → oneByOne requests table orders answers ≡ batchWords table orders requests answers
+  unfolding batchWords
+  batch-passes v = rw v
 
 -- ---- one request of the words that are left
 
 -- the request that the first three words name
 abbrev pub first : List ℕ → List ℕ → List ℕ → Left
-first l table orders = doneWith (plainOf (getD l 0 0) (getD l 1 0) (getD l 2 0)) table orders
+first l table orders = doneWith (asked (plainOf (getD l 0 0) (getD l 1 0) (getD l 2 0))) table orders
 
 pub no-request : (l table orders answers : List ℕ) → length l < 3 → oneByOne l table orders answers ≡ stopped verdict.Accepted table orders answers
 unfolding oneByOne
@@ -32,10 +50,10 @@ no-request (k ∷ a ∷ s ∷ l) table orders answers h = absurd (omega arith)
 
 module _ (l table orders answers : List ℕ) (h : 3 ≤ length l) where
   pub no-answer : length answers < 2 → oneByOne l table orders answers ≡ stopped (verdict.Refused refusal.OrderWords) table orders answers
+  unfolding oneByOne
   no-answer few = go l h
     where
       go : (l : List ℕ) → 3 ≤ length l → oneByOne l table orders answers ≡ stopped (verdict.Refused refusal.OrderWords) table orders answers
-      unfolding oneByOne
       go [] h = absurd (omega arith)
       go (k ∷ []) h = absurd (omega arith)
       go (k ∷ a ∷ []) h = absurd (omega arith)
@@ -43,10 +61,10 @@ module _ (l table orders answers : List ℕ) (h : 3 ≤ length l) where
 
   module _ (enough : 2 ≤ length answers) where
     pub no-words : lacksWords (first l table orders) ≡ true → oneByOne l table orders answers ≡ stopped (verdict.Refused refusal.OrderWords) table orders answers
+    unfolding oneByOne
     no-words = go l h
       where
         go : (l : List ℕ) → 3 ≤ length l → lacksWords (first l table orders) ≡ true → oneByOne l table orders answers ≡ stopped (verdict.Refused refusal.OrderWords) table orders answers
-        unfolding oneByOne
         go [] h e = absurd (omega arith)
         go (k ∷ []) h e = absurd (omega arith)
         go (k ∷ a ∷ []) h e = absurd (omega arith)
@@ -55,12 +73,12 @@ module _ (l table orders answers : List ℕ) (h : 3 ≤ length l) where
     pub one-more : lacksWords (first l table orders) ≡ false
         → oneByOne l table orders answers
         ≡ before (first l table orders) (oneByOne (drop 3 l) (first l table orders .table) (drop (answerOrders (first l table orders .answer) * 3) (first l table orders .orders)) (drop 2 answers))
+    unfolding oneByOne
     one-more = go l h
       where
         go : (l : List ℕ) → 3 ≤ length l → lacksWords (first l table orders) ≡ false
             → oneByOne l table orders answers
             ≡ before (first l table orders) (oneByOne (drop 3 l) (first l table orders .table) (drop (answerOrders (first l table orders .answer) * 3) (first l table orders .orders)) (drop 2 answers))
-        unfolding oneByOne
         go [] h e = absurd (omega arith)
         go (k ∷ []) h e = absurd (omega arith)
         go (k ∷ a ∷ []) h e = absurd (omega arith)
@@ -69,31 +87,36 @@ module _ (l table orders answers : List ℕ) (h : 3 ≤ length l) where
 -- ---- what is done so far
 
 abbrev pub onto : ℕ → ℕ → List ℕ → List ℕ → After → After
-onto d g os as y = record {
+onto d g os bs y = record {
   batched = record { verdict = y .batched .verdict; done = d + y .batched .done; orders = g + y .batched .orders };
   table = y .table;
   orders = os ++ y .orders;
-  answers = as ++ y .answers;
+  answers = bs ++ y .answers;
 }
 
-onto-before : (d g : ℕ) (os as : List ℕ) (x : Left) (y : After)
-    → onto d g os as (before x y)
-    ≡ onto (d + 1) (g + answerOrders (x .answer)) (os ++ take (answerOrders (x .answer) * 3) (x .orders)) (as ++ answerNumber (x .answer) ∷ answerOrders (x .answer) ∷ []) y
-onto-before d g os as x y =
+onto-none : (y : After) → y ≡ onto 0 0 [] [] y
+onto-none y =
+    let p : y .batched .done ≡ 0 + y .batched .done = omega arith in
+    let q : y .batched .orders ≡ 0 + y .batched .orders = omega arith in
+    λ i. record { batched = record { verdict = y .batched .verdict; done = p i; orders = q i }; table = y .table; orders = y .orders; answers = y .answers }
+
+onto-before : (d g : ℕ) (os bs : List ℕ) (x : Left) (y : After)
+    → onto d g os bs (before x y)
+    ≡ onto (d + 1) (g + answerOrders (x .answer)) (os ++ take (answerOrders (x .answer) * 3) (x .orders)) (bs ++ answerNumber (x .answer) ∷ answerOrders (x .answer) ∷ []) y
+onto-before d g os bs x y =
     let p : d + suc (y .batched .done) ≡ d + 1 + y .batched .done = omega arith in
     let q : g + (answerOrders (x .answer) + y .batched .orders) ≡ g + answerOrders (x .answer) + y .batched .orders = omega arith in
     let r = sym (append-assoc os (take (answerOrders (x .answer) * 3) (x .orders)) (y .orders)) in
-    let s = sym (append-assoc as (answerNumber (x .answer) ∷ answerOrders (x .answer) ∷ []) (y .answers)) in
+    let s = sym (append-assoc bs (answerNumber (x .answer) ∷ answerOrders (x .answer) ∷ []) (y .answers)) in
     λ i. record { batched = record { verdict = y .batched .verdict; done = p i; orders = q i }; table = y .table; orders = r i; answers = s i }
 
 -- two words written one after the other
 told : (l : List ℕ) (n v w : ℕ) → n + 2 ≤ length l → take (n + 2) (set (set l n v) (n + 1) w) ≡ take n l ++ v ∷ w ∷ []
 told l n v w h =
+    let first : take (n + 1) (set l n v) ≡ take n l ++ v ∷ [] = rw (add-one n) (take-suc-set l n v (omega arith)) in
     let e : n + 2 ≡ suc (n + 1) = omega arith in
-    rw e
-    (take-suc-set (set l n v) (n + 1) w (let m = length-set l n v in omega arith)
-    ∙ ap (λ (r : List ℕ). r ++ w ∷ []) (rw (add-one n) (take-suc-set l n v (omega arith)))
-    ∙ append-assoc (take n l) (v ∷ []) (w ∷ []))
+    let m = length-set l n v in
+    rw e (take-suc-set (set l n v) (n + 1) w (omega arith) ∙ ap (λ (r : List ℕ). r ++ w ∷ []) first ∙ append-assoc (take n l) (v ∷ []) (w ∷ []))
 
 -- the words after so many requests and orders
 abbrev pub rest : List ℕ → List ℕ → List ℕ → List ℕ → ℕ → ℕ → After
@@ -107,7 +130,7 @@ pub record Doing (whole : After) (requests table orders answers : List ℕ) (d g
   pub so-far : whole ≡ onto d g (take (g * 3) orders) (take (d * 2) answers) (rest requests table orders answers d g)
 
 pub doing-start : (requests table orders answers : List ℕ) → judgeWords table ≡ true → Doing (oneByOne requests table orders answers) requests table orders answers 0 0
-doing-start requests table orders answers v = record { passes = v; asked = omega arith; answered = omega arith; ordered = omega arith; so-far = refl }
+doing-start requests table orders answers v = record { passes = v; asked = omega arith; answered = omega arith; ordered = omega arith; so-far = onto-none (oneByOne requests table orders answers) }
 
 module _ {whole : After} {requests table orders answers : List ℕ} {d g : ℕ} (k : Doing whole requests table orders answers d g) where
   pub doing-end : (v : Verdict) → rest requests table orders answers d g ≡ stopped v table (drop (g * 3) orders) (drop (d * 2) answers)
@@ -156,3 +179,54 @@ module _ {whole : After} {requests table orders answers : List ℕ} {d g : ℕ} 
                 ∙ onto-before d g (take (g * 3) orders) (take (d * 2) answers) here _
                 ∙ rw (three, two, behind, take-append-add (take (g * 3) orders) (here .orders) (given * 3), drop-append-add (take (g * 3) orders) (here .orders) (given * 3), taken, dropped) refl;
           }
+
+-- ---- the slices that are lent for one request
+
+-- the words from a place on, and a slice with others in their place
+rest-of : (l : List ℕ) (n : ℕ) → take (length l - n) (drop n l) ≡ drop n l
+rest-of l n = take-all (length l - n) (drop n l) (let e = length-drop n l in omega arith)
+
+put-rest : (l m : List ℕ) (n : ℕ) → putMid n (length l - n) l m ≡ take n l ++ m
+put-rest l m n = rw (drop-of-length-le (drop n l) {i = length l - n} (let e = length-drop n l in omega arith), append-nil)
+
+module _ {whole : After} {requests table orders answers : List ℕ} {d g : ℕ} (k : Doing whole requests table orders answers d g)
+    (h : d * 3 + 3 ≤ length requests) (i : d * 2 + 2 ≤ length answers) {r : Answer} {t o : List ℕ}
+    (e : left r t o ≡ first (take (length requests - d * 3) (drop (d * 3) requests)) table (take (length orders - g * 3) (drop (g * 3) orders)))
+    (len : length o ≡ length (take (length orders - g * 3) (drop (g * 3) orders))) {w : RawAnswer} (as-told : w ≡ answerNumbers r) where
+  abbrev words : List ℕ
+  words = drop (d * 3) requests
+
+  abbrev named : Option Request
+  named = plainOf (getD words 0 0) (getD words 1 0) (getD words 2 0)
+
+  done-is : left r t o ≡ first words table (drop (g * 3) orders)
+  done-is = e ∙ rw (rest-of requests (d * 3), rest-of orders (g * 3))
+
+  same-orders : length (first words table (drop (g * 3) orders) .orders) ≡ length (drop (g * 3) orders)
+  same-orders = sym (ap (λ (x : Left). length (x .orders)) done-is) ∙ len ∙ ap length (rest-of orders (g * 3))
+
+  long : 3 ≤ length words
+  long = let l = length-drop (d * 3) requests in omega arith
+
+  enough : 2 ≤ length (drop (d * 2) answers)
+  enough = let l = length-drop (d * 2) answers in omega arith
+
+  -- it lacks order words, so nothing has changed
+  pub one-lacks : w .number ≡ 2 → after (record { verdict = verdict.Refused refusal.OrderWords; done = d; orders = g }) t (putMid (g * 3) (length orders - g * 3) orders o) answers ≡ whole
+  one-lacks n =
+      let x = first words table (drop (g * 3) orders) in
+      let lacks : lacksWords x ≡ true = ap lacksWords (sym done-is) ∙ eq-eqb (answerNumber r) 2 (sym (ap (λ (u : RawAnswer). u .number) as-told) ∙ n) in
+      let same = done-is ∙ lacking-same table (drop (g * 3) orders) (k .passes) named lacks in
+      rw (put-rest orders o (g * 3), ap (λ (y : Left). y .table) same, ap (λ (y : Left). y .orders) same, take-append-drop (g * 3) orders)
+      (doing-end k (verdict.Refused refusal.OrderWords) (no-words words table (drop (g * 3) orders) (drop (d * 2) answers) long enough lacks))
+
+  -- else it is done
+  pub one-done : (w .number ≡ 2 → ⊥) → Doing whole requests t (putMid (g * 3) (length orders - g * 3) orders o) (set (set answers (d * 2) (w .number)) (d * 2 + 1) (w .orders)) (d + 1) (g + w .orders)
+  one-done n =
+      let goes : lacksWords (first words table (drop (g * 3) orders)) ≡ false = ap lacksWords (sym done-is) ∙ ne-eqb (answerNumber r) 2 (λ q. n (ap (λ (u : RawAnswer). u .number) as-told ∙ q)) in
+      rw (put-rest orders o (g * 3), as-told)
+      (subst
+      (λ (x : Left). Doing whole requests (x .table) (take (g * 3) orders ++ x .orders) (set (set answers (d * 2) (answerNumber (x .answer))) (d * 2 + 1) (answerOrders (x .answer))) (d + 1) (g + answerOrders (x .answer)))
+      (sym done-is)
+      (doing-next k h i (still-passes table (drop (g * 3) orders) (k .passes) named (plain-floats (getD words 0 0) (getD words 1 0) (getD words 2 0)))
+      (orders-fit table (drop (g * 3) orders) (k .passes) named same-orders) goes))

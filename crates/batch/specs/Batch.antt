@@ -1,7 +1,6 @@
 -- Many requests on one table: what a batch answers and leaves, on any input.
 use Prim.Native.Nat.{ℕ, suc, _+_, _*_}
 use mathlib.Core.Bool.{Bool}
-use mathlib.Core.Option.{Option, none, some}
 use mathlib.Core.List.{List, [], _∷_, _++_}
 use lib.Dec.{eqb, ltb}
 use lib.ListN.{length, take, drop}
@@ -9,12 +8,13 @@ use Rattle.rules.specs.declared.answer.Answer.the-variants.{Refused}
 use Rattle.rules.specs.declared.answer.Refusal.the-variants as refusal
 use Rattle.rules.specs.declared.answer.Verdict.{Verdict}
 use Rattle.rules.specs.declared.answer.Verdict.the-variants as verdict
-use Rattle.rules.specs.declared.request.Request.{Request}
 use Rattle.rules.specs.Answers.{answerNumber, answerOrders}
 use Rattle.rules.specs.Entries.{if_then_else_}
 use Rattle.judge.specs.Verdict.{judgeWords}
 use Rattle.cache.specs.Tables.{Left, left, stepWords}
-use Rattle.numbers.specs.Meanings.{plainOf}
+use Rattle.numbers.specs.Meanings.{asked, plainOf}
+use Rattle.numbers.specs.declared.request.Asked.{Asked}
+use Rattle.numbers.specs.declared.request.Asked.the-variants.{Known, Unknown}
 use Rattle.batch.specs.declared.Batched.{Batched}
 
 -- The answer, and the words of the table, of the order slice and of the answer slice after it.
@@ -30,9 +30,9 @@ after b table orders answers = record { batched = b; table = table; orders = ord
 -- ---- one request
 
 -- As a step does it, with no list. A kind that a batch has not is meant for no mode: 5.
-abbrev pub doneWith : Option Request → List ℕ → List ℕ → Left
-doneWith none table orders = left (Refused refusal.Mode) table orders
-doneWith (some r) table orders = stepWords table orders [] r
+abbrev pub doneWith : Asked → List ℕ → List ℕ → Left
+doneWith Unknown table orders = left (Refused refusal.Mode) table orders
+doneWith (Known r) table orders = stepWords table orders [] r
 
 -- It would be refused for too few order words.
 abbrev pub lacksWords : Left → Bool
@@ -60,7 +60,7 @@ oneByOne [] table orders answers = stopped verdict.Accepted table orders answers
 oneByOne (k ∷ []) table orders answers = stopped verdict.Accepted table orders answers
 oneByOne (k ∷ a ∷ []) table orders answers = stopped verdict.Accepted table orders answers
 oneByOne (k ∷ a ∷ s ∷ rest) table orders answers =
-    let x = doneWith (plainOf k a s) table orders in
+    let x = doneWith (asked (plainOf k a s)) table orders in
     if ltb (length answers) 2
     then stopped (verdict.Refused refusal.OrderWords) table orders answers
     else (if lacksWords x

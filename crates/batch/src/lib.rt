@@ -8,7 +8,7 @@ ghost use Prim.Native.Nat.{_≤_};
 ghost use lib.ListN.{length, getD};
 ghost use Rattle.cache.specs.Tables.{left};
 ghost use Rattle.judge.specs.Verdict.{judgeWords};
-ghost use Rattle.numbers.specs.Meanings.{plainOf};
+ghost use Rattle.numbers.specs.Meanings.{asked, plainOf};
 ghost use Rattle.batch.specs.Batch.{after, doneWith, oneByOne, batchWords};
 use cache::step_judged;
 use judge::judge;
@@ -35,7 +35,7 @@ pub struct Batched {
 // The request in the first three words, on a table that passed.
 fn one(table: &mut [u64], orders: &mut [u64], words: &[u64]) -> Answer
     requires { ⌜ (judgeWords (now table) ≡ true) × (3 ≤ length (now words)) ⌝ }
-    ensures { λ r. ⌜ left r (now (table .exit)) (now (orders .exit)) ≡ doneWith (plainOf (getD (now (words .entry)) 0 0) (getD (now (words .entry)) 1 0) (getD (now (words .entry)) 2 0)) (now (table .entry)) (now (orders .entry)) ⌝ }
+    ensures { λ r. ⌜ left r (now (table .exit)) (now (orders .exit)) ≡ doneWith (asked (plainOf (getD (now (words .entry)) 0 0) (getD (now (words .entry)) 1 0) (getD (now (words .entry)) 2 0))) (now (table .entry)) (now (orders .entry)) ⌝ }
 {
     match plain_request(words[0], words[1], words[2]) {
         Asked::Known(request) => step_judged(table, orders, &words[0..0], request),

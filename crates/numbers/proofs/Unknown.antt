@@ -17,11 +17,11 @@ use Rattle.settings.specs.declared.Settings.{Settings}
 use Rattle.numbers.specs.Meanings.{meaning, increaseOfRaw, capOfRaw, flashOfRaw, decreaseOfRaw, settingsOfRaw}
 use Rattle.numbers.specs.declared.raw.RawDecrease.{RawDecrease}
 use Rattle.numbers.specs.declared.raw.RawSettings.{RawSettings}
+use Rattle.numbers.proofs.Listed.{neither}
 
 -- a kind above 1, where 0 and 1 are known
 neither-kind : {A : Type 0} (x y : A) (n : ℕ) → 1 < n → meaning ((0, x) ∷ (1, y) ∷ []) n ≡ none
-unfolding meaning
-neither-kind x y n h = rw (ne-eqb n 0 (λ e. omega arith), ne-eqb n 1 (λ e. omega arith))
+neither-kind x y n h = neither 0 1 x y n (λ e. omega arith) (λ e. omega arith)
 
 -- a kind above 3 of a decrease rule
 no-decrease : (d : RawDecrease) → 3 < d .kind → decreaseOfRaw d ≡ decrease.AgeOut 0 (decimal 0 1)

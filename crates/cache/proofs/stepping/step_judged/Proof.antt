@@ -14,28 +14,28 @@ enum-told c = search needs
 
 take-requires : tie.Need-take-requires
 take-requires c κs =
-    let s = c@start in
-    good (s .args .table .now) (c@start .pre)
+    let s = c .before .before .before .before .before .before in
+    good (s .args .table .now) (c .before .before .before .before .before .before .pre)
 
 same-length : tie.Need-same-length
 same-length c = search needs
 
 returns : tie.Need-returns
 returns c =
-    let s = c@start in
+    let s = c .before .before .before .before .before .before .before .before .before in
     let ws = s .args .table .now in
     let os = s .args .orders .now in
     let list = s .args .list .now in
-    step-left ws os list _ (c@start .pre) (c@take .ensures os) ∙ ap (stepWords ws os list) (sym (c@enum-told .given .1))
+    step-left ws os list _ (c .before .before .before .before .before .before .before .before .before .pre) (c .before .before .take .ensures os) ∙ ap (stepWords ws os list) (sym (c .before .before .before .before .enum-told .given .1))
 
 row-count-requires : tie.Need-row-count-requires
-row-count-requires c κs = good (c@start .args .table .now) (c@start .pre)
+row-count-requires c κs = good (c .before .before .before .before .before .args .table .now) (c .before .before .before .before .before .pre)
 
 find-named-requires : tie.Need-find-named-requires
-find-named-requires c κs = record { good = good (c@start .args .table .now) (c@start .pre); size = c@row-count .ensures }
+find-named-requires c κs = record { good = good (c .before .before .before .before .before .before .before .args .table .now) (c .before .before .before .before .before .before .before .pre); size = c .before .row-count .ensures }
 
 refusal-of-requires : tie.Need-refusal-of-requires
-refusal-of-requires c κs = (record { good = good (c@start .args .table .now) (c@start .pre); size = c@row-count .ensures }, c@find-named .ensures)
+refusal-of-requires c κs = (record { good = good (c .before .before .before .before .before .before .before .before .before .args .table .now) (c .before .before .before .before .before .before .before .before .before .pre); size = c .before .before .before .row-count .ensures }, c .before .find-named .ensures)
 
 enum-known-verdict : tie.Need-enum-known-verdict
 enum-known-verdict c = search needs
@@ -45,18 +45,18 @@ same-length-2 c = search needs
 
 returns-2 : tie.Need-returns-2
 returns-2 c =
-    let s = c@start in
-    step-not (s .args .table .now) (s .args .orders .now) (s .args .list .now) (s .args .request) (c@start .pre) (c@refusal-of .ensures) _ (c@verdict .given .1)
+    let s = c .before .before .before .before .before .before .before .before .before .before .before .before .before in
+    step-not (s .args .table .now) (s .args .orders .now) (s .args .list .now) (s .args .request) (c .before .before .before .before .before .before .before .before .before .before .before .before .before .pre) (c .before .before .before .refusal-of .ensures) _ (c .before .verdict .given .1)
 
 enum-told-2 : tie.Need-enum-told-2
 enum-told-2 c = search needs
 
 carry-out-requires : tie.Need-carry-out-requires
 carry-out-requires c κs =
-    let s = c@start in (
-      not-refused (s .args .table .now) (s .args .orders .now) (s .args .list .now) (s .args .request) (c@start .pre) (c@refusal-of .ensures) (c@enum-told2 .given .1),
-      (λ e. miss (0 ∷ 1 ∷ 2 ∷ 3 ∷ 4 ∷ 5 ∷ 6 ∷ 7 ∷ 8 ∷ 9 ∷ 11 ∷ []) 10 tt (rw e at (c@match .keys2))),
-      c@find-named .ensures,
+    let s = c .before .before .before .before .before .before .before .before .before .before .before .before .before .before in (
+      not-refused (s .args .table .now) (s .args .orders .now) (s .args .list .now) (s .args .request) (c .before .before .before .before .before .before .before .before .before .before .before .before .before .before .pre) (c .before .before .before .before .refusal-of .ensures) (c .before .before .enum-told2 .given .1),
+      (λ e. miss (0 ∷ 1 ∷ 2 ∷ 3 ∷ 4 ∷ 5 ∷ 6 ∷ 7 ∷ 8 ∷ 9 ∷ 11 ∷ []) 10 tt (rw e at (c .before .before .before .before .before .before .before .before .before .before .match .keys2))),
+      c .before .before .before .before .before .before .find-named .ensures,
     )
 
 same-length-3 : tie.Need-same-length-3
@@ -67,8 +67,8 @@ same-length-4 c = search needs
 
 returns-3 : tie.Need-returns-3
 returns-3 c =
-    let s = c@start in
-    step-did (s .args .table .now) (s .args .orders .now) (s .args .list .now) (s .args .request) (c@start .pre) (c@refusal-of .ensures) (c@enum-told2 .given .1) (c@carry-out .ensures)
+    let s = c .before .before .before .before .before .before .before .before .before .before .before .before .before .before .before .before .before .before .before in
+    step-did (s .args .table .now) (s .args .orders .now) (s .args .list .now) (s .args .request) (c .before .before .before .before .before .before .before .before .before .before .before .before .before .before .before .before .before .before .before .pre) (c .before .before .before .before .before .before .before .before .before .refusal-of .ensures) (c .before .before .before .before .before .before .before .enum-told2 .given .1) (c .before .before .before .before .carry-out .ensures)
 
 pub step-judged-spec : {M : Type 1} → statement M
 step-judged-spec =
