@@ -17,13 +17,13 @@ use requests::use_often;
 use settings::Decrease;
 use settings::Mode;
 use shell::print;
-use shell::setup::ORDER_WORDS;
-use shell::setup::Orders;
-use shell::setup::ROWS;
-use shell::setup::TABLE_WORDS;
-use shell::setup::Table;
-use shell::setup::small;
-use shell::setup::small_with;
+use small_setup::ORDER_WORDS;
+use small_setup::Orders;
+use small_setup::ROWS;
+use small_setup::TABLE_WORDS;
+use small_setup::Table;
+use small_setup::small;
+use small_setup::small_with;
 
 // P1's inserts, the last with this size.
 fn three_inserts(table: &mut Table, orders: &mut Orders, size: u64) {

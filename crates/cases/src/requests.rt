@@ -7,8 +7,8 @@ use settings::Mode;
 use settings::Settings;
 use shell::ask;
 use shell::print;
-use shell::setup::Orders;
-use shell::setup::Table;
+use small_setup::Orders;
+use small_setup::Table;
 
 // A line with an address.
 fn address_line(s: &[u8], address: u64) {

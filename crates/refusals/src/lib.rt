@@ -26,13 +26,13 @@ pub fn refusal_of(
 {
     match request {
         Request::Insert { address, size } => {
-            entry_tests::insert(table, rows, found, lent, address, size)
+            admission_tests::insert(table, rows, found, lent, address, size)
         }
         Request::Protect {
             access,
             address,
             size,
-        } => entry_tests::protect(table, rows, found, lent, access, address, size),
+        } => admission_tests::protect(table, rows, found, lent, access, address, size),
         Request::Release { address } => entry_tests::release(table, rows, found, lent, address),
         Request::ReleaseChanged { address, size } => {
             entry_tests::release_changed(table, rows, found, lent, address, size)

@@ -8,11 +8,11 @@ ghost use Rattle.shell.specs.Lines.{ran, ranLine};
 ghost use Rattle.shell.specs.Rest.{Within};
 use crate::ask;
 use crate::print;
-use crate::setup::Orders;
-use crate::setup::Table;
 use libc::STDIN_FILENO;
 use lines::Line;
 use rules::request::Request;
+use small_setup::Orders;
+use small_setup::Table;
 
 // What a piece of input leaves.
 pub enum Rest {

@@ -9,18 +9,17 @@ ghost use Rattle.cache.specs.Tables.{stepWords};
 
 mod input;
 pub mod print;
-pub mod setup;
 
 use entries::default_threshold;
 use rules::answer::Answer;
 use rules::request::Request;
 use settings::Mode;
-use setup::ORDER_WORDS;
-use setup::Orders;
-use setup::ROWS;
-use setup::TABLE_WORDS;
-use setup::Table;
-use setup::small;
+use small_setup::ORDER_WORDS;
+use small_setup::Orders;
+use small_setup::ROWS;
+use small_setup::TABLE_WORDS;
+use small_setup::Table;
+use small_setup::small;
 
 // Does a request that has no list, and prints what it gives.
 pub fn ask(table: &mut Table, orders: &mut Orders, request: Request)

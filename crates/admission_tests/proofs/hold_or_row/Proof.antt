@@ -4,8 +4,8 @@ use Rattle.layout.specs.Picture.{cacheIn}
 use Rattle.table.proofs.Told.{found-at, found-no}
 use Rattle.verdicts.proofs.Telling.{done, on, past}
 use borrow.Author.Needs.{needs}
-use Rattle.entry_tests.proofs.hold_or_row.Statement.{statement}
-use Rattle.entry_tests.proofs.hold_or_row.Tie as tie
+use Rattle.admission_tests.proofs.hold_or_row.Statement.{statement}
+use Rattle.admission_tests.proofs.hold_or_row.Tie as tie
 
 enum-told : tie.Need-enum-told
 enum-told c = search needs

@@ -4,8 +4,8 @@ use Rattle.rules.specs.Refusals.{tests}
 use Rattle.conditions.specs.declared.seen.Seen.{Seen}
 use Rattle.verdicts.proofs.Telling.{done, on}
 use borrow.Author.Needs.{needs}
-use Rattle.entry_tests.proofs.insert.Statement.{statement}
-use Rattle.entry_tests.proofs.insert.Tie as tie
+use Rattle.admission_tests.proofs.insert.Statement.{statement}
+use Rattle.admission_tests.proofs.insert.Tie as tie
 
 see-requires : tie.Need-see-requires
 see-requires c κs = search needs

@@ -2,8 +2,8 @@
 use Rattle.rules.specs.Refusals.{tests}
 use Rattle.verdicts.proofs.Telling.{on}
 use borrow.Author.Needs.{needs}
-use Rattle.entry_tests.proofs.protect.Statement.{statement}
-use Rattle.entry_tests.proofs.protect.Tie as tie
+use Rattle.admission_tests.proofs.protect.Statement.{statement}
+use Rattle.admission_tests.proofs.protect.Tie as tie
 
 hold-or-row-requires : tie.Need-hold-or-row-requires
 hold-or-row-requires c κs = search needs
