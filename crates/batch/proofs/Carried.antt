@@ -1,7 +1,7 @@
 -- A batch is its requests one after another: what each of them keeps, the batch keeps. So a batch of local requests goes on with a run of
 -- demand 3, and any batch goes on with a history of held bytes.
 use Prim.Native.Nat.{ℕ, _*_}
-use mathlib.Core.Path.{_≡_, refl, sym, ap, subst, _∙_}
+use mathlib.Core.Path.{_≡_, refl, sym, ap, subst}
 use mathlib.Core.Option.{Option, none, some}
 use mathlib.Core.List.{List, [], _∷_, _++_}
 use lib.Dec.{ltb}

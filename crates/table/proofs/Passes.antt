@@ -2,7 +2,6 @@
 use Prim.Native.Nat.{ℕ, suc, _+_, _*_, _<_, _≤_}
 use mathlib.Core.Bool.{Bool, true, false, not, _||_}
 use mathlib.Core.List.{List, [], _∷_}
-use mathlib.Core.Option.{Option, none, some, Option·map, Option·getD}
 use mathlib.Core.Path.{_≡_, refl, sym, ap, _∙_}
 use native.Mathlib.Numerals.{add-one}
 use native.Mathlib.Omega.{arith}
@@ -18,12 +17,11 @@ use Rattle.rules.specs.declared.entry.Hold.{Hold}
 use Rattle.rules.specs.declared.entry.Row.the-variants.{Free, Used}
 use Rattle.rules.specs.declared.entry.Row.{Row}
 use Rattle.rules.specs.Addresses.{someAddress}
-use Rattle.rules.specs.Allowed.{HoldAllowed, EntryAllowed}
+use Rattle.rules.specs.Allowed.{HoldAllowed}
 use Rattle.rules.specs.Entries.{if_then_else_, isHeld}
 use Rattle.rules.specs.Limits.{mostSize}
 use Rattle.rules.specs.Room.{cleanBytes}
-use Rattle.rules.specs.Rows.{get, someEntry, total, cleanAt, sizeAt}
-use Rattle.rules.proofs.Tests.{choose}
+use Rattle.rules.specs.Rows.{someEntry, total, cleanAt, sizeAt}
 use Rattle.layout.specs.Layout.{holdWord}
 use Rattle.layout.specs.Picture.{rowWords}
 use Rattle.layout.specs.Places.{lowestFree}
@@ -150,16 +148,3 @@ module _ (l : List ℕ) (i : ℕ) where
   pub clean-end : (rows : List Row) → length l ≤ i → cleanBytes rows (drop i l) ≡ 0
   unfolding cleanBytes
   clean-end rows h = rw (drop-of-length-le l h)
-
--- a list's clean bytes are no more than the largest size for each
-pub clean-most : (rows : List Row) → ((a : ℕ) (e : Entry) → get rows a ≡ some e → EntryAllowed e) → (l : List ℕ) → cleanBytes rows l ≤ length l * mostSize
-unfolding cleanBytes
-clean-most rows f [] = omega arith
-clean-most rows f (a ∷ l) =
-    let ih = clean-most rows f l in
-    let k : (if cleanAt rows a then sizeAt rows a else 0) ≤ mostSize = choose (λ (n : ℕ). n ≤ mostSize) (cleanAt rows a) (λ p. go (get rows a) (f a)) (λ p. omega arith) in
-    omega arith
-  where
-    go : (o : Option Entry) → ((e : Entry) → o ≡ some e → EntryAllowed e) → Option·getD (Option·map (λ e. e .size) o) 0 ≤ mostSize
-    go none s = omega arith
-    go (some e) s = s e refl .size

@@ -1,6 +1,6 @@
 -- What a good table tells, in the code's own terms.
 use Prim.Native.Nat.{ℕ, suc, _+_, _<_, _≤_}
-use mathlib.Core.Bool.{Bool, true, false, not, false≢true}
+use mathlib.Core.Bool.{Bool, true, false, false≢true}
 use mathlib.Core.List.{List, [], _∷_}
 use mathlib.Core.Option.{none, some}
 use mathlib.Core.Path.{_≡_, refl, sym, ap, _∙_}
@@ -13,7 +13,7 @@ use Rattle.rules.specs.declared.entry.Row.the-variants.{Free}
 use Rattle.rules.specs.declared.entry.Row.{Row}
 use Rattle.rules.specs.Addresses.{elem}
 use Rattle.rules.specs.Cache.{Cache}
-use Rattle.rules.specs.Entries.{if_then_else_, isListed}
+use Rattle.rules.specs.Entries.{isListed}
 use Rattle.rules.specs.Rows.{get, isHere, dirtyAt, sizeAt}
 use Rattle.rules.proofs.Found.{present, absent}
 use Rattle.rules.proofs.Tests.{split}
@@ -25,7 +25,7 @@ use Rattle.layout.proofs.Held.{RunAt, run-recency, run-addresses, holds-cache, 
 use Rattle.layout.proofs.Numbers.{stands, here-of, number-low, address-back, elem-addresses, rising-addresses}
 use Rattle.table.specs.declared.lookup.Found.the-variants.{At, Nothing}
 use Rattle.table.specs.Asked.{GoodRows, RunIn, RowOf, PlaceIn, DropAt}
-use Rattle.table.specs.Told.{foundIn, cleanSize}
+use Rattle.table.specs.Told.{foundIn}
 use Rattle.table.proofs.Between.{place-elem}
 use Rattle.table.proofs.Lengths.{at-number}
 
@@ -106,9 +106,6 @@ module _ (rows : List Row) (a : ℕ) (e : Entry) (r : get rows a ≡ some e) whe
 
   pub told-dirty : e .dirty ≡ dirtyAt rows a
   told-dirty = rw r
-
-  pub told-clean : (if not (e .dirty) then e .size else 0) ≡ cleanSize rows a
-  told-clean = rw r
 
   pub told-address : e .address ≡ a
   told-address = stands rows a e r .address

@@ -14,7 +14,6 @@ use Rattle.rules.specs.declared.entry.Row.the-variants.{Free}
 use Rattle.rules.specs.Addresses.{someAddress}
 use Rattle.rules.specs.Entries.{if_then_else_, isHeld, isClean}
 use Rattle.rules.specs.Limits.{mostSize, mostRows}
-use Rattle.rules.specs.Room.{cleanBytes}
 use Rattle.rules.specs.Rows.{get, passes, someEntry, total, heldBytes, cleanAt, dirtyAt}
 use Rattle.rules.proofs.Moves.{clean-of}
 use Rattle.layout.specs.Layout.{rowAt}
@@ -22,7 +21,7 @@ use Rattle.layout.specs.Picture.{cacheIn}
 use Rattle.layout.specs.Places.{lowestFree}
 use Rattle.layout.proofs.Held.{all-allowed, row-allowed, recency-get}
 use Rattle.table.specs.Asked.{GoodRows}
-use Rattle.table.proofs.Passes.{rowTest, isFree, dirtySize, total-next, total-most, entry-next, lowest-next, some-next, clean-most, size-word, dirty-word, held-word, free-word}
+use Rattle.table.proofs.Passes.{rowTest, isFree, dirtySize, total-next, total-most, entry-next, lowest-next, some-next, size-word, dirty-word, held-word, free-word}
 use Rattle.table.proofs.Told.{row-word}
 
 module _ {ws : List ℕ} {rows : ℕ} (g : GoodRows ws rows) where
@@ -73,12 +72,6 @@ module _ {ws : List ℕ} {rows : ℕ} (g : GoodRows ws rows) where
     free-on q = lowest-next (cacheIn ws .rows) i within ∙ rw (sym free-test ∙ ne-eqb _ 0 q)
 
   -- ---- over the recency list
-
-  pub clean-fits : cleanBytes (cacheIn ws .rows) (cacheIn ws .recency) ≤ mostRows * mostSize
-  clean-fits =
-      let k = g .good .steady .rows in
-      let l = g .good .listed in
-      omega (arith, clean-most (cacheIn ws .rows) (g .good .steady .entries) (cacheIn ws .recency))
 
   module _ (i : ℕ) (l : i < length (cacheIn ws .recency)) where
     pub clean-stop : dirtyAt (cacheIn ws .rows) (getD (cacheIn ws .recency) i 0) ≡ false → someAddress (cleanAt (cacheIn ws .rows)) (drop i (cacheIn ws .recency)) ≡ true

@@ -1,4 +1,3 @@
-use native.Mathlib.Omega.{arith}
 -- The request that the words name is done by a step with no list; words that name none are refused.
 use mathlib.Core.Path.{refl}
 use borrow.Author.Needs.{needs}

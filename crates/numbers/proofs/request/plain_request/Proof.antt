@@ -1,5 +1,4 @@
 -- By the kind as `plainOf` reads it.
-use borrow.Author.Needs.{needs}
 use borrow.Author.Tests.{ne-eqb}
 use Rattle.numbers.specs.Meanings.{meaning, plainOf}
 use Rattle.numbers.proofs.request.plain_request.Statement.{statement}

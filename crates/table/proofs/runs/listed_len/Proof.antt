@@ -1,5 +1,4 @@
 -- The recency run is as long as the list.
-use mathlib.Core.Path.{_∙_}
 use borrow.Author.Needs.{needs}
 use Rattle.table.proofs.Told.{recency-run, recency-length}
 use Rattle.table.proofs.runs.listed_len.Statement.{statement}

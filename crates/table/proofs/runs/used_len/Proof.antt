@@ -1,5 +1,4 @@
 -- The address run is as long as there are entries.
-use mathlib.Core.Path.{_∙_}
 use borrow.Author.Needs.{needs}
 use Rattle.table.proofs.Told.{address-run, address-length}
 use Rattle.table.proofs.runs.used_len.Statement.{statement}
