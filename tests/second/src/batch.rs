@@ -3,7 +3,10 @@
 use crate::boundary::{request_of, Asked};
 use crate::library::{self, Batched};
 use crate::model::{Model, Order, Refusal, Request};
+use std::ops::RangeInclusive;
 
+/// What a batch does: insert to sync.
+pub const KINDS: RangeInclusive<u64> = 1..=11;
 pub const REQUEST_WORDS: usize = 3;
 pub const ANSWER_WORDS: usize = 2;
 const ORDER_WORDS: usize = 3;
@@ -18,11 +21,12 @@ fn asked_of(words: &[u64]) -> Asked {
     Asked { kind: words[0], address: words[1], size: words[2], settings: [0; 22] }
 }
 
-/// The request that three words stand for. Kinds past sync are none.
+/// The request that three words stand for, in a batch.
 fn plain_of(words: &[u64]) -> Request {
-    match request_of(&asked_of(words)) {
-        Request::Take | Request::Configure(_) => Request::Unknown,
-        request => request,
+    if KINDS.contains(&words[0]) {
+        request_of(&asked_of(words))
+    } else {
+        Request::Unknown
     }
 }
 

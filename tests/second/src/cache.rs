@@ -276,7 +276,7 @@ impl Cache {
             mark(BatchPlace::BatchRequest, true);
             mark(if *number == 0 { BatchPlace::BatchAccepted } else { BatchPlace::BatchRefused }, true);
             match words[0] {
-                1..=11 => {}
+                kind if batch::KINDS.contains(&kind) => {}
                 12 => mark(BatchPlace::BatchTake, true),
                 13 => mark(BatchPlace::BatchConfigure, true),
                 _ => mark(BatchPlace::BatchUnknown, true),

@@ -1,6 +1,6 @@
 //! A random run of one cache.
 
-use crate::batch::{ANSWER_WORDS, REQUEST_WORDS};
+use crate::batch::{self, ANSWER_WORDS, REQUEST_WORDS};
 use crate::boundary::{request_of, settings_of, settings_words, Asked, SettingsWords, KINDS};
 use crate::cache::{Cache, Difference};
 use crate::model::{order_words, Mode, ROW_LIMIT, THRESHOLD_LIMIT};
@@ -256,8 +256,7 @@ impl Player<'_> {
         for _ in 0..length {
             let (asked, _) = requests::request(&mut self.r, &m, phase, self.scale);
             requests.push([asked.kind, asked.address, asked.size]);
-            let done_in_batch = (1..=11).contains(&asked.kind);
-            if done_in_batch {
+            if batch::KINDS.contains(&asked.kind) {
                 let _ = m.step(&request_of(&asked), &[], order_words(m.rows));
             }
         }
