@@ -148,13 +148,14 @@ static void order_words(void) {
 
 static void answer_words(void) {
     speldervacht_batched told;
-    for (size_t words = 0; words <= 5; words++) {
+    const size_t enough = SPELDERVACHT_ANSWER_WORDS(2);
+    for (size_t words = 0; words <= enough + 1; words++) {
         open_both(SPELDERVACHT_STANDBY);
         put(SPELDERVACHT_INSERT, 100, 50);
         put(SPELDERVACHT_INSERT, 200, 50);
         told = checked_batch(MOST_ORDERS, words);
-        expect(told.number == (words < 4 ? SPELDERVACHT_FEW_ORDER_WORDS : SPELDERVACHT_ACCEPTED), "stops, or not");
-        expect(told.done == (words < 4 ? words / 2 : 2), "two words for each answer");
+        expect(told.number == (words < enough ? SPELDERVACHT_FEW_ORDER_WORDS : SPELDERVACHT_ACCEPTED), "stops, or not");
+        expect(told.done == (words < enough ? words / 2 : 2), "two words for each answer");
         expect(speldervacht_report(batched.table, TABLE).entries == told.done, "what is not answered is not done");
     }
 }
@@ -209,7 +210,7 @@ static void parts(void) {
         open_both(SPELDERVACHT_ALONE);
         put(SPELDERVACHT_INSERT, 100, 50);
         put(SPELDERVACHT_INSERT, 200, 50);
-        length -= 3 - more;
+        length = SPELDERVACHT_REQUEST_WORDS(1) + more;
         told = checked_batch(MOST_ORDERS, ANSWERS);
         expect(told.number == SPELDERVACHT_ACCEPTED && told.done == 1, "a part of a request");
     }

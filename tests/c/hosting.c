@@ -297,6 +297,18 @@ static void expect_memory(void) {
     expect(there == 0, "and no more");
 }
 
+/* A release behind a protect that is refused lets go of somebody else's hold. */
+static void release_of_another(void) {
+    const uint64_t requests[] = {SPELDERVACHT_PROTECT_FOR_READING, 100, 10, SPELDERVACHT_RELEASE_UNCHANGED, 100, 0};
+    uint64_t answers[SPELDERVACHT_ANSWER_WORDS(2)];
+    open_cache(SPELDERVACHT_LEAD, small_settings());
+    step(SPELDERVACHT_PROTECT_FOR_WRITING, 100, 10);
+    speldervacht_batch(table, TABLE, orders, ORDERS, requests, SPELDERVACHT_REQUEST_WORDS(2), answers,
+                       SPELDERVACHT_ANSWER_WORDS(2));
+    expect(answers[0] == SPELDERVACHT_HELD && answers[2] == SPELDERVACHT_ACCEPTED, "refused, and released");
+    expect(step(SPELDERVACHT_RELEASE_UNCHANGED, 100, 0).number == SPELDERVACHT_NOT_HELD, "the writer's hold is gone");
+}
+
 static void failing_batches(void) {
     const uint64_t kinds[] = {SPELDERVACHT_PROTECT_FOR_READING, SPELDERVACHT_PROTECT_FOR_WRITING,
                               SPELDERVACHT_RELEASE_UNCHANGED,   SPELDERVACHT_RELEASE_UNCHANGED,
@@ -344,6 +356,7 @@ int main(void) {
     evictions_off();
     end_of_epoch();
     random_requests();
+    release_of_another();
     failing_batches();
     return outcome("a host is told right");
 }
