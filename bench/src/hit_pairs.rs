@@ -9,7 +9,7 @@ use second::table::picture;
 use std::hint::black_box;
 use std::time::Duration;
 
-/// Of so many different entries.
+/// Of so many different entries, from the oldest to the newest, evenly.
 const PAIRS: usize = 32;
 /// What a pair in a batch may cost at a number of rows, times two requests.
 const WANTED: [(usize, f64); 2] = [(64, 0.25), (4_096, 0.125)];
@@ -25,8 +25,9 @@ impl HitPairs {
     pub fn measure(rows: usize) -> HitPairs {
         let cache = full_cache(rows, Mode::Alone, false);
         let words = picture(&cache);
-        // The oldest, the newest and those between, evenly.
-        let addresses: Vec<u64> = (0..PAIRS).map(|i| cache.recency[i * (rows - 1) / (PAIRS - 1)]).collect();
+        // The model's list has the newest first.
+        let oldest_first: Vec<u64> = cache.recency.iter().rev().copied().collect();
+        let addresses: Vec<u64> = (0..PAIRS).map(|i| oldest_first[i * (rows - 1) / (PAIRS - 1)]).collect();
         let pairs: Vec<[[u64; 3]; 2]> =
             addresses.iter().map(|a| [[PROTECT_FOR_READING, *a, SIZE], [RELEASE_UNCHANGED, *a, 0]]).collect();
         let requests: Vec<u64> = pairs.concat().concat();
@@ -34,7 +35,7 @@ impl HitPairs {
         let mut answers = vec![0; 4 * PAIRS];
         let mut table = words.clone();
         let [mut one_by_one, mut batch, mut plain] = [(); 3].map(|()| Best(Duration::MAX));
-        let fresh = Lru::of(cache.recency.iter().copied());
+        let fresh = Lru::of(oldest_first);
         many_times(|| {
             table.copy_from_slice(&words);
             one_by_one.time(|| {
