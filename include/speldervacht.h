@@ -36,6 +36,9 @@
  *   whose bytes come into memory after them.
  * - A protect names the record's size, so the host keeps all sizes outside the cache.
  * - A lead sends its list when the disk has what was written.
+ * - Many requests at once, as those of a tick or those that a standby has yet to catch up with, may be
+ *   one batch (speldervacht_batch): the table is judged once for all of them, and judging is most of
+ *   what a small request costs. Their orders are carried out one request's after the other's.
  * - A table that a crash may have caught amid a call is not used again, even if it is not refused.
  *
  * The host lends memory for each call and the library keeps none of its own:
@@ -44,6 +47,8 @@
  *   orders   uint64_t[SPELDERVACHT_ORDER_WORDS(rows)]    what a request tells the host to do
  *   list     const uint64_t[]                            addresses, for a standby's take; those that
  *                                                        are sent have up to SPELDERVACHT_LIST_WORDS(rows)
+ *   requests const uint64_t[SPELDERVACHT_REQUEST_WORDS(requests)]    those of a batch
+ *   answers  uint64_t[SPELDERVACHT_ANSWER_WORDS(requests)]           what each of these is answered
  *
  * The table, with n rows:
  *
@@ -71,9 +76,9 @@
  * given.
  *
  * The pointers: each is aligned for uint64_t and points to at least as many words as its length
- * says. NULL goes with the length 0. The table, the orders and the list of one call must not
- * overlap. Too short a table is refused with 1, too few order words with 2. Calls on different
- * tables may run at the same time; calls on one table may not, unless all of them ask or report.
+ * says. NULL goes with the length 0. What is lent for one call must not overlap. Too short a table
+ * is refused with 1, too few order words with 2. Calls on different tables may run at the same time;
+ * calls on one table may not, unless all of them ask or report.
  *
  * A first cache:
  *
@@ -118,6 +123,12 @@ extern "C" {
 #define SPELDERVACHT_ORDER_WORDS(rows) (3 * (2 * (size_t)(rows) + 1))
 /* The most addresses of a list that a lead with so many rows sends, or a standby with so many takes. */
 #define SPELDERVACHT_LIST_WORDS(rows) ((size_t)(rows))
+/* The words of so many requests in a batch, three each: kind, address, size; and of their answers, two
+ * each: number, orders given. */
+#define SPELDERVACHT_REQUEST_WORDS(requests) (3 * (size_t)(requests))
+#define SPELDERVACHT_ANSWER_WORDS(requests) (2 * (size_t)(requests))
+/* Order words for a batch that is not to stop for them until it has given more than so many orders. */
+#define SPELDERVACHT_BATCH_ORDER_WORDS(rows, orders) (SPELDERVACHT_ORDER_WORDS(rows) + 3 * (size_t)(orders))
 
 /* Rows of a table: 1 to this. */
 #define SPELDERVACHT_MOST_ROWS 4096
@@ -271,6 +282,13 @@ typedef struct speldervacht_verdict {
     uint64_t field;  /* 1 to 12 with SPELDERVACHT_BAD_SETTING, else 0 */
 } speldervacht_verdict;
 
+/* What a batch came to. */
+typedef struct speldervacht_batched {
+    uint64_t number; /* 0, SPELDERVACHT_BAD_TABLE, or SPELDERVACHT_FEW_ORDER_WORDS if it stopped */
+    uint64_t done;   /* how many requests were answered */
+    uint64_t orders; /* how many orders they gave */
+} speldervacht_batched;
+
 /* The figures of a cache, in bytes but for entries and due. */
 typedef struct speldervacht_figures {
     uint64_t number;                           /* 0, or SPELDERVACHT_BAD_TABLE and all else is 0 */
@@ -289,6 +307,7 @@ SPELDERVACHT_STATIC_ASSERT(sizeof(struct speldervacht_settings) == 176, "22 word
 SPELDERVACHT_STATIC_ASSERT(sizeof(struct speldervacht_request) == 200, "25 words");
 SPELDERVACHT_STATIC_ASSERT(sizeof(struct speldervacht_answer) == 24, "3 words");
 SPELDERVACHT_STATIC_ASSERT(sizeof(struct speldervacht_verdict) == 16, "2 words");
+SPELDERVACHT_STATIC_ASSERT(sizeof(struct speldervacht_batched) == 24, "3 words");
 SPELDERVACHT_STATIC_ASSERT(sizeof(struct speldervacht_figures) == 152, "19 words");
 
 /* ---- functions */
@@ -305,6 +324,29 @@ speldervacht_answer speldervacht_open(uint64_t *table, size_t table_words, uint6
  * if it is empty. The standby takes each list once, as sent, before the next list or change. */
 speldervacht_answer speldervacht_step(uint64_t *table, size_t table_words, uint64_t *orders, size_t order_words,
                                       const uint64_t *list, size_t list_words, struct speldervacht_request request);
+
+/* Does many requests on the cache in the table, which is judged once: one after another, each exactly as
+ * speldervacht_step does it on the table that the one before it left, with the order words that are then
+ * left. Request i is requests[3 * i] to requests[3 * i + 2]: kind, address, size. Its answer is
+ * answers[2 * i], its number, and answers[2 * i + 1], how many orders it gave. These stand in orders
+ * behind those of the requests before it. A request that is refused is answered too, and the batch goes
+ * on. One or two words past the last whole request are not read; the words past the last answer and past
+ * the last order stay as they were.
+ *
+ * A batch does the kinds from insert to sync. Take and configure, which need more than three words, and
+ * unknown kinds are answered SPELDERVACHT_BAD_MODE in it.
+ *
+ * It stops before the first request for which too few order words or no two answer words are left. Then
+ * the number is SPELDERVACHT_FEW_ORDER_WORDS: what was answered is done, and the host carries out its
+ * orders and calls again with the rest. If nothing was answered, it lends more words. A request that
+ * can give orders needs SPELDERVACHT_ORDER_WORDS(rows) words to be left, however few it gives: so lend
+ * SPELDERVACHT_BATCH_ORDER_WORDS(rows, orders), with as many orders as are likely to come.
+ *
+ * A table whose words picture no cache is refused with SPELDERVACHT_BAD_TABLE: nothing is answered, and
+ * no word changes. If an order fails: docs/HOSTING.md, "Many requests at once". */
+speldervacht_batched speldervacht_batch(uint64_t *table, size_t table_words, uint64_t *orders, size_t order_words,
+                                        const uint64_t *requests, size_t request_words, uint64_t *answers,
+                                        size_t answer_words);
 
 /* Tells what speldervacht_step would answer to the request, with so many order words lent for it, and
  * changes nothing. What it tells holds as long as the table gets no other request. It costs what

@@ -1,8 +1,12 @@
 //! Times the library's requests, and asking about them, beside judging alone, the second program's
-//! model, and reading the table once. Prints one table, in Markdown.
+//! model, and reading the table once; and hits in a batch. Prints two tables, in Markdown.
 //!
 //!     cargo run --release
 
+mod hit_pairs;
+mod lru;
+
+use hit_pairs::HitPairs;
 use second::boundary::{request_of, settings_words, Asked};
 use second::library;
 use second::model::{self, order_words, Decrease, Entry, Hold, Mode, Model, Request, Settings};
@@ -435,6 +439,7 @@ fn main() {
         let above = if above.is_empty() { "none".to_string() } else { above.join("; ") };
         println!("\n{bound}: {above}.");
     }
+    hit_pairs::print(&ROW_COUNTS.map(HitPairs::measure));
     println!();
     for rows in ROW_COUNTS {
         let (table, orders) = (table_words(rows), order_words(rows));

@@ -19,15 +19,21 @@ static host lead, standby;
 static int write_fails;
 static unsigned written, evicted;
 
-int carry_out(host *side, uint64_t count) {
+static int carry_out_pair(const uint64_t *some, uint64_t count) {
     for (uint64_t i = 0; i < count; i++) {
-        if (side->orders[3 * i] == SPELDERVACHT_WRITE && write_fails) {
+        if (some[3 * i] == SPELDERVACHT_WRITE && write_fails) {
             return -1;
         }
-        written += side->orders[3 * i] == SPELDERVACHT_WRITE;
-        evicted += side->orders[3 * i] == SPELDERVACHT_EVICT;
+        written += some[3 * i] == SPELDERVACHT_WRITE;
+        evicted += some[3 * i] == SPELDERVACHT_EVICT;
     }
     return 0;
+}
+
+static int carry_out_batch(const uint64_t *some, uint64_t count);
+
+int carry_out(host *side, const uint64_t *some, uint64_t count) {
+    return side == &lead || side == &standby ? carry_out_pair(some, count) : carry_out_batch(some, count);
 }
 
 static void open_side(host *side, uint64_t mode) {
@@ -231,6 +237,117 @@ static void random_requests(void) {
     }
 }
 
+/* ---- batches whose orders fail, beside single requests whose orders do not */
+
+#define BATCHES 3000
+#define BATCH 30
+#define BATCH_ORDERS SPELDERVACHT_BATCH_ORDER_WORDS(ROWS, 40)
+
+static uint64_t batch_words[3][TABLE + BATCH_ORDERS];
+static host batching = {batch_words[0], batch_words[1], batch_words[2], TABLE, BATCH_ORDERS};
+static int in_memory[14];             /* of the batching host, by address */
+static unsigned orders_until_failure; /* carried out before one fails */
+
+/* The writes and the load, and then the evictions. What is loaded is dropped if one fails. */
+static int carry_out_batch(const uint64_t *some, uint64_t count) {
+    for (uint64_t i = 0; i < count; i++) {
+        const uint64_t *order = some + 3 * i;
+        if (order[0] == SPELDERVACHT_EVICT) {
+            continue;
+        }
+        if (orders_until_failure-- == 0) {
+            for (uint64_t j = 0; j < i; j++) {
+                in_memory[some[3 * j + 1]] -= some[3 * j] == SPELDERVACHT_LOAD;
+            }
+            return -1;
+        }
+        expect(in_memory[order[1]] == (order[0] == SPELDERVACHT_WRITE), "what memory has");
+        in_memory[order[1]] = 1;
+    }
+    for (uint64_t i = 0; i < count; i++) {
+        if (some[3 * i] == SPELDERVACHT_EVICT) {
+            in_memory[some[3 * i + 1]] = 0;
+        }
+    }
+    return 0;
+}
+
+/* Inserts bring records and discards drop them. Both are single requests here, since do_batch leaves what else
+ * happens in memory to its host. */
+static void change_memory(uint64_t kind, uint64_t address) {
+    uint64_t request[3] = {kind, address, 100}, answer[2];
+    orders_until_failure = BATCH_ORDERS;
+    expect(do_batch(&batching, request, 1, answer).done == 1, "a batch of one");
+    if (answer[0] == SPELDERVACHT_ACCEPTED) {
+        in_memory[address] = kind == SPELDERVACHT_INSERT;
+    }
+}
+
+/* Memory has the records that the table has. */
+static void expect_memory(void) {
+    uint64_t there = 0;
+    for (uint64_t row = 0; row < ROWS; row++) {
+        const uint64_t *words_of_row = batching.table + 29 + 6 * row;
+        expect(words_of_row[1] == 0 || in_memory[words_of_row[0]], "memory has what the table has");
+        there += words_of_row[1] != 0;
+    }
+    for (int address = 0; address < 14; address++) {
+        there -= (uint64_t)in_memory[address];
+    }
+    expect(there == 0, "and no more");
+}
+
+/* A release behind a protect that is refused lets go of somebody else's hold. */
+static void release_of_another(void) {
+    const uint64_t requests[] = {SPELDERVACHT_PROTECT_FOR_READING, 100, 10, SPELDERVACHT_RELEASE_UNCHANGED, 100, 0};
+    uint64_t answers[SPELDERVACHT_ANSWER_WORDS(2)];
+    open_cache(SPELDERVACHT_LEAD, small_settings());
+    step(SPELDERVACHT_PROTECT_FOR_WRITING, 100, 10);
+    speldervacht_batch(table, TABLE, orders, ORDERS, requests, SPELDERVACHT_REQUEST_WORDS(2), answers,
+                       SPELDERVACHT_ANSWER_WORDS(2));
+    expect(answers[0] == SPELDERVACHT_HELD && answers[2] == SPELDERVACHT_ACCEPTED, "refused, and released");
+    expect(step(SPELDERVACHT_RELEASE_UNCHANGED, 100, 0).number == SPELDERVACHT_NOT_HELD, "the writer's hold is gone");
+}
+
+static void failing_batches(void) {
+    const uint64_t kinds[] = {SPELDERVACHT_PROTECT_FOR_READING, SPELDERVACHT_PROTECT_FOR_WRITING,
+                              SPELDERVACHT_RELEASE_UNCHANGED,   SPELDERVACHT_RELEASE_UNCHANGED,
+                              SPELDERVACHT_RELEASE_CHANGED,     SPELDERVACHT_FLUSH};
+    unsigned failed = 0, after_some = 0, evicted_before = 0;
+    open_cache(SPELDERVACHT_ALONE, small_settings());
+    memcpy(batching.table, table, sizeof table);
+    for (unsigned i = 0; i < BATCHES; i++) {
+        uint64_t requests[3 * BATCH], answers[2 * BATCH], given = 0;
+        speldervacht_batched batched;
+        change_memory(SPELDERVACHT_INSERT, below(14));
+        change_memory(SPELDERVACHT_DISCARD, below(14));
+        for (uint64_t j = 0; j < BATCH; j++) {
+            requests[3 * j] = kinds[below(6)];
+            requests[3 * j + 1] = below(14);
+            requests[3 * j + 2] = 1 + below(500);
+        }
+        memcpy(table, batching.table, sizeof table);
+        orders_until_failure = (unsigned)below(20);
+        batched = do_batch(&batching, requests, BATCH, answers);
+        for (uint64_t j = 0; j < batched.done; j++) {
+            speldervacht_answer answer = step(requests[3 * j], requests[3 * j + 1], requests[3 * j + 2]);
+            expect(answers[2 * j] == answer.number && answers[2 * j + 1] == answer.orders, "the answers");
+            expect(memcmp(orders, batching.orders + 3 * given, 24 * answer.orders) == 0, "the orders");
+            given += answer.orders;
+        }
+        expect(memcmp(table, batching.table, sizeof table) == 0, "the table of the requests that are done");
+        expect(batched.orders == given, "their orders");
+        expect_memory();
+        failed += batched.number == FAILED;
+        after_some += batched.number == FAILED && given != 0;
+        for (uint64_t j = 0; j < given && batched.number == FAILED; j++) {
+            evicted_before += batching.orders[3 * j] == SPELDERVACHT_EVICT;
+        }
+    }
+    expect(failed > BATCHES / 10 && after_some > BATCHES / 10, "failures, after other orders too");
+    expect(evicted_before > BATCHES / 10, "failures after evictions");
+}
+
 int main(void) {
     pair();
     own_release();
@@ -239,5 +356,7 @@ int main(void) {
     evictions_off();
     end_of_epoch();
     random_requests();
+    release_of_another();
+    failing_batches();
     return outcome("a host is told right");
 }

@@ -71,8 +71,8 @@ static void limits(void) {
 
 /* Texts without particulars, and all names of fields, are the Rust crate's. */
 static void as_in_rust(void) {
-    const uint64_t plain[] = {SPELDERVACHT_BAD_TABLE, SPELDERVACHT_BAD_ADDRESS, SPELDERVACHT_NO_ROW,
-                              SPELDERVACHT_BAD_LIST};
+    const uint64_t plain[] = {SPELDERVACHT_BAD_TABLE, SPELDERVACHT_BAD_ADDRESS, SPELDERVACHT_HELD,
+                              SPELDERVACHT_NO_ROW, SPELDERVACHT_BAD_LIST};
     for (size_t i = 0; i < sizeof plain / sizeof plain[0]; i++) {
         expect_in_rust(speldervacht_text(plain[i]));
     }

@@ -1,13 +1,13 @@
 //! A cache that owns its words.
 
 use crate::{
-    ask, open, order_words, report, step, table_words, Entries, Entry, List, Mode, OrderKind, Orders, Refusal, Report,
-    Request, Settings, View, DEFAULT_THRESHOLD,
+    ask, batch, layout, open, order_words, report, step, table_words, Answers, Entries, Entry, List, Mode, OrderKind,
+    Orders, PlainRequest, Refusal, Report, Request, Settings, View, DEFAULT_THRESHOLD,
 };
 use alloc::{vec, vec::Vec};
 use core::fmt;
 
-/// A cache over words of its own: a table, and words for the orders of one request.
+/// A cache over words of its own: a table, and words for orders and for the answers of a batch.
 ///
 /// Each request has a method. Where a request can give orders, they are the answer, to be carried out
 /// in turn before the next request; where by the rules it can give none, the answer is `()`. A
@@ -20,7 +20,10 @@ use core::fmt;
 #[derive(Clone)]
 pub struct Cache {
     table: Vec<u64>,
+    /// For one request, and more once a batch has needed it.
     orders: Vec<u64>,
+    /// None before the first batch.
+    answers: Vec<[u64; layout::ANSWER_WORDS]>,
 }
 
 /// Whether a protected record was there.
@@ -89,7 +92,7 @@ impl Builder {
         if self.rows > crate::MOST_ROWS {
             return Err(Refusal::BadTable);
         }
-        let mut cache = Cache { table: vec![0; table_words(self.rows)], orders: vec![0; order_words(self.rows)] };
+        let mut cache = Cache::over(vec![0; table_words(self.rows)], self.rows);
         open(&mut cache.table, self.rows, self.mode, self.threshold, &self.settings)?;
         Ok(cache)
     }
@@ -110,7 +113,11 @@ impl Cache {
         let mut table = words.into();
         let rows = View::of(&table)?.rows();
         table.truncate(table_words(rows));
-        Ok(Cache { table, orders: vec![0; order_words(rows)] })
+        Ok(Cache::over(table, rows))
+    }
+
+    fn over(table: Vec<u64>, rows: usize) -> Cache {
+        Cache { table, orders: vec![0; order_words(rows)], answers: Vec::new() }
     }
 
     /// The words of the table.
@@ -128,6 +135,60 @@ impl Cache {
     /// The refusal of the request, which has changed nothing.
     pub fn step(&mut self, request: &Request) -> Result<Orders<'_>, Refusal> {
         step(&mut self.table, &mut self.orders, request)
+    }
+
+    /// Does requests one after another, and has the answer of each, in turn: its orders, or its refusal.
+    /// The table is judged once for all of them, and once more whenever more orders come than there are
+    /// requests left.
+    ///
+    /// Each is done exactly as [`step`](Cache::step) does it. A refused request has changed nothing, and
+    /// those behind it are done all the same. The orders are carried out one request's after the other's,
+    /// before the next request or batch.
+    ///
+    /// ```
+    /// use speldervacht::{Cache, PlainRequest, Refusal, Settings};
+    ///
+    /// let mut cache = Cache::builder().rows(4).settings(Settings::fixed(4_096)).open()?;
+    /// cache.insert(100, 500)?;
+    ///
+    /// // A tick that reads two records, one of which is loaded, and tries to discard one of them.
+    /// let tick = [
+    ///     PlainRequest::protect_for_reading(100, 500),
+    ///     PlainRequest::protect_for_reading(200, 700),
+    ///     PlainRequest::discard(200),
+    ///     PlainRequest::release(100),
+    ///     PlainRequest::release(200),
+    /// ];
+    /// for (request, answer) in tick.iter().zip(cache.batch(&tick)?) {
+    ///     match answer {
+    ///         Ok(orders) => orders.for_each(|order| assert_eq!(order.to_string(), "load 200 700")),
+    ///         Err(refusal) => assert_eq!((*request, refusal), (tick[2], Refusal::HeldInBatch)),
+    ///     }
+    /// }
+    /// # Ok::<(), Refusal>(())
+    /// ```
+    ///
+    /// # Errors
+    ///
+    /// [`Refusal::BadTable`] if the words were damaged in memory. Then no request was done.
+    pub fn batch<'b>(&'b mut self, requests: &'b [PlainRequest]) -> Result<Answers<'b>, Refusal> {
+        // A damaged table may name any number of rows.
+        let rows = self.rows().min(crate::MOST_ROWS);
+        self.answers.resize(requests.len(), [0; layout::ANSWER_WORDS]);
+        let (mut done, mut given) = (0, 0);
+        loop {
+            let rest = &requests[done..];
+            let lent = order_words(rows) + layout::ORDER_WORDS * (given + rest.len());
+            self.orders.resize(lent.max(self.orders.len()), 0);
+            let orders = &mut self.orders[layout::ORDER_WORDS * given..];
+            let answers = batch(&mut self.table, orders, rest, &mut self.answers[done..])?;
+            done += answers.len();
+            given += answers.orders();
+            if done == requests.len() {
+                break;
+            }
+        }
+        Ok(Answers::new(requests, &self.answers, &self.orders, self.mode()))
     }
 
     /// Does a request on a copy of the table, for [`exchange`](Cache::exchange) to make it the cache's.

@@ -28,6 +28,9 @@ pub(crate) const RUN_END: u64 = u64::MAX;
 const WORDS_FOR_EACH_ROW: usize = ROW_WORDS + 2;
 /// The words of an order.
 pub(crate) const ORDER_WORDS: usize = 3;
+/// The words of a request in a batch, and of its answer.
+pub(crate) const REQUEST_WORDS: usize = 3;
+pub(crate) const ANSWER_WORDS: usize = 2;
 
 /// The words that a table with so many rows takes.
 #[must_use]

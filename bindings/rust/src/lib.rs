@@ -10,8 +10,8 @@
 //!   by default.
 //! - [`Cache`] owns its words, and has a method for each request. The caller carries out the orders. It
 //!   needs the feature `alloc`.
-//! - [`open`], [`step`], [`ask`] and [`report`] work on lent words, and [`View`] reads them. They need
-//!   neither `std` nor an allocator.
+//! - [`open`], [`step`], [`batch`], [`ask`] and [`report`] work on lent words, and [`View`] reads them.
+//!   They need neither `std` nor an allocator.
 //!
 //! Two words have two senses. An entry is *held* while readers or a writer hold it, between protect
 //! and release; *held bytes* are the sizes of all entries, held or not. An entry is *clean* if it is
@@ -123,6 +123,7 @@ extern crate alloc;
 #[cfg(feature = "std")]
 extern crate std;
 
+mod batch;
 #[cfg(feature = "alloc")]
 mod cache;
 #[cfg(feature = "alloc")]
@@ -133,12 +134,14 @@ mod layout;
 #[cfg(feature = "alloc")]
 mod list;
 mod order;
+mod plain;
 pub mod raw;
 mod refusal;
 mod request;
 mod settings;
 mod view;
 
+pub use batch::{batch, Answers};
 #[cfg(feature = "alloc")]
 pub use cache::{Access, Builder, Cache, Protected};
 #[cfg(feature = "alloc")]
@@ -149,6 +152,7 @@ pub use layout::{order_words, table_words};
 #[cfg(feature = "alloc")]
 pub use list::List;
 pub use order::{Order, OrderKind, Orders};
+pub use plain::PlainRequest;
 pub use refusal::{Hold, Refusal};
 pub use request::Request;
 pub use settings::{Decrease, Flash, Increase, Settings};

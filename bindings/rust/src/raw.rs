@@ -57,6 +57,15 @@ pub struct Verdict {
     pub field: u64,
 }
 
+/// What a batch came to: 0, 1 or 2, how many requests were answered, and how many orders they gave.
+#[repr(C)]
+#[derive(Clone, Copy, Debug, Default, PartialEq, Eq)]
+pub struct Batched {
+    pub number: u64,
+    pub done: u64,
+    pub orders: u64,
+}
+
 /// The figures of a cache; with number 1 all else is 0.
 #[repr(C)]
 #[derive(Clone, Copy, Debug, Default, PartialEq, Eq)]
@@ -76,6 +85,7 @@ const _: () = assert!(size_of::<Settings>() == 176);
 const _: () = assert!(size_of::<Request>() == 200);
 const _: () = assert!(size_of::<Answer>() == 24);
 const _: () = assert!(size_of::<Verdict>() == 16);
+const _: () = assert!(size_of::<Batched>() == 24);
 const _: () = assert!(size_of::<Figures>() == 152);
 
 extern "C" {
@@ -106,6 +116,22 @@ extern "C" {
         list_words: usize,
         request: Request,
     ) -> Answer;
+
+    /// Does many requests, of three words each, and answers each with two.
+    ///
+    /// # Safety
+    /// Each pointer has as many words as its length says, nothing else touches them during the
+    /// call, and no two of the four overlap.
+    pub fn speldervacht_batch(
+        table: *mut u64,
+        table_words: usize,
+        orders: *mut u64,
+        order_words: usize,
+        requests: *const u64,
+        request_words: usize,
+        answers: *mut u64,
+        answer_words: usize,
+    ) -> Batched;
 
     /// Tells what `speldervacht_step` would answer to a request, with so many order words lent.
     ///

@@ -33,6 +33,9 @@ pub enum Refusal {
     InCache { address: u64 },
     /// 8: the entry's hold forbids it.
     Held { address: u64, hold: Hold },
+    /// 8, in a batch: an entry is held for writing or by readers, which forbids the request. Requests
+    /// behind it have changed the table since, so the hold is not told.
+    HeldInBatch,
     /// 9: the entry lacks the hold that the request needs.
     NotHeld { address: u64 },
     /// 10: the entry is pinned.
@@ -77,7 +80,7 @@ impl Refusal {
             Refusal::WrongMode { .. } | Refusal::BadThreshold { .. } => 5,
             Refusal::NotInCache { .. } => 6,
             Refusal::InCache { .. } => 7,
-            Refusal::Held { .. } => 8,
+            Refusal::Held { .. } | Refusal::HeldInBatch => 8,
             Refusal::NotHeld { .. } => 9,
             Refusal::Pinned { .. } | Refusal::NotPinned { .. } => 10,
             Refusal::NoRow => 11,
@@ -98,23 +101,43 @@ impl Refusal {
 
     /// The refusal of a request, with what the untouched table tells of it.
     pub(crate) fn of_request(verdict: raw::Verdict, table: &[u64], lent: usize, request: &Request) -> Refusal {
-        let (table, address) = (View::unjudged(table), request.address());
+        let table = View::unjudged(table);
         match verdict.number {
+            2 => Refusal::few_order_words(table, lent),
+            8 => held(table, request),
+            12 => Refusal::BadSetting { field: verdict.field },
+            number => Refusal::by_request(number, table.mode(), request),
+        }
+    }
+
+    /// The refusal of a request in a batch, whose table has gone on since.
+    pub(crate) fn in_batch(number: u64, mode: Mode, request: &Request) -> Refusal {
+        match number {
+            8 => Refusal::HeldInBatch,
+            number => Refusal::by_request(number, mode, request),
+        }
+    }
+
+    pub(crate) fn few_order_words(table: View, lent: usize) -> Refusal {
+        Refusal::FewOrderWords { needed: order_words(table.rows()), lent }
+    }
+
+    /// The refusal, with what the request and the mode tell of it.
+    fn by_request(number: u64, mode: Mode, request: &Request) -> Refusal {
+        let address = request.address();
+        match number {
             1 => Refusal::BadTable,
-            2 => Refusal::FewOrderWords { needed: order_words(table.rows()), lent },
             3 => Refusal::BadAddress,
             4 => Refusal::BadSize { size: request.size() },
-            5 => Refusal::WrongMode { mode: table.mode() },
+            5 => Refusal::WrongMode { mode },
             6 => Refusal::NotInCache { address },
             7 => Refusal::InCache { address },
-            8 => held(table, request),
             9 => Refusal::NotHeld { address },
             10 => match request {
                 Request::Unpin { .. } => Refusal::NotPinned { address },
                 _ => Refusal::Pinned { address },
             },
             11 => Refusal::NoRow,
-            12 => Refusal::BadSetting { field: verdict.field },
             13 => Refusal::BadList,
             number => Refusal::Other { number },
         }
@@ -161,6 +184,9 @@ impl fmt::Display for Refusal {
             }
             Refusal::Held { address, hold: Hold::Readers(n) } => {
                 write!(f, "the entry at {address} is held by {n} readers")
+            }
+            Refusal::HeldInBatch => {
+                write!(f, "an entry is held for writing or by readers, which forbids the request")
             }
             Refusal::NotHeld { address } => {
                 write!(f, "the entry at {address} lacks the hold that the request needs")

@@ -2,6 +2,23 @@
 
 use crate::{raw, Settings};
 
+/// The numbers of the kinds.
+pub(crate) mod kind {
+    pub(crate) const INSERT: u64 = 1;
+    pub(crate) const PROTECT_FOR_READING: u64 = 2;
+    pub(crate) const PROTECT_FOR_WRITING: u64 = 3;
+    pub(crate) const RELEASE_UNCHANGED: u64 = 4;
+    pub(crate) const RELEASE_CHANGED: u64 = 5;
+    pub(crate) const PIN: u64 = 6;
+    pub(crate) const UNPIN: u64 = 7;
+    pub(crate) const RESIZE: u64 = 8;
+    pub(crate) const DISCARD: u64 = 9;
+    pub(crate) const FLUSH: u64 = 10;
+    pub(crate) const SYNC: u64 = 11;
+    pub(crate) const TAKE: u64 = 12;
+    pub(crate) const CONFIGURE: u64 = 13;
+}
+
 /// A request. Addresses are any number but all ones; sizes are 1 to 134,217,728 bytes.
 #[derive(Clone, Copy, Debug, PartialEq)]
 pub enum Request<'a> {
@@ -73,19 +90,19 @@ impl Request<'_> {
 
     pub(crate) fn to_raw(self) -> raw::Request {
         let kind = match self {
-            Request::Insert { .. } => 1,
-            Request::ProtectForReading { .. } => 2,
-            Request::ProtectForWriting { .. } => 3,
-            Request::ReleaseUnchanged { .. } => 4,
-            Request::ReleaseChanged { .. } => 5,
-            Request::Pin { .. } => 6,
-            Request::Unpin { .. } => 7,
-            Request::Resize { .. } => 8,
-            Request::Discard { .. } => 9,
-            Request::Flush => 10,
-            Request::Sync => 11,
-            Request::Take { .. } => 12,
-            Request::Configure { .. } => 13,
+            Request::Insert { .. } => kind::INSERT,
+            Request::ProtectForReading { .. } => kind::PROTECT_FOR_READING,
+            Request::ProtectForWriting { .. } => kind::PROTECT_FOR_WRITING,
+            Request::ReleaseUnchanged { .. } => kind::RELEASE_UNCHANGED,
+            Request::ReleaseChanged { .. } => kind::RELEASE_CHANGED,
+            Request::Pin { .. } => kind::PIN,
+            Request::Unpin { .. } => kind::UNPIN,
+            Request::Resize { .. } => kind::RESIZE,
+            Request::Discard { .. } => kind::DISCARD,
+            Request::Flush => kind::FLUSH,
+            Request::Sync => kind::SYNC,
+            Request::Take { .. } => kind::TAKE,
+            Request::Configure { .. } => kind::CONFIGURE,
         };
         let settings = match self {
             Request::Configure { settings } => settings.to_raw(),

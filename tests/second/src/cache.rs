@@ -1,9 +1,10 @@
 //! A cache twice: in the library's table, and as the model.
 
+use crate::batch::{self, Came, ANSWER_WORDS, REQUEST_WORDS};
 use crate::boundary::{mode_of, request_of, settings_of, Asked, SettingsWords};
-use crate::library::{self, Answer, Verdict};
+use crate::library::{self, Answer, Batched, Verdict};
 use crate::model::{self, order_words, Model, Order, Refusal, Report};
-use crate::reached::AskPlace;
+use crate::reached::{AskPlace, BatchPlace};
 use crate::table;
 use crate::tally::{Tally, OPENING};
 
@@ -183,6 +184,104 @@ impl Cache {
         self.hand_in(tally);
         self.report(self.table.len(), tally)?;
         Ok((answer, orders))
+    }
+
+    /// Many requests in one call, beside single steps of the library on copies.
+    pub fn batch(
+        &mut self,
+        lent: usize,
+        order_lent: usize,
+        requests: &[u64],
+        answer_lent: usize,
+        tally: &mut Tally,
+    ) -> Result<Batched, Difference> {
+        let (mut table, mut orders) = (self.table.clone(), self.orders.clone());
+        let pictured = self.model.as_mut().filter(|m| lent >= table::table_words(m.rows));
+        let is_cache = pictured.is_some();
+        let came = pictured.map_or_else(Came::to_nothing, |m| batch::on_model(m, requests, order_lent, answer_lent));
+        if let (true, Some(m)) = (is_cache, &self.model) {
+            let words = table::picture(m);
+            self.expected_table[..words.len()].copy_from_slice(&words);
+            for (order, to) in came.orders.iter().zip(self.expected_orders.chunks_mut(3)) {
+                to.copy_from_slice(&order.words());
+            }
+        }
+        let unused: Vec<u64> = (0..answer_lent as u64 + 3).map(|i| !(i << 32)).collect();
+        let mut expected_answers = unused.clone();
+        expected_answers[..ANSWER_WORDS * came.answers.len()].copy_from_slice(came.answers.as_flattened());
+
+        let mut answers = unused.clone();
+        let requests_before = requests.to_vec();
+        let batched = library::batch(
+            &mut self.table[..lent],
+            &mut self.orders[..order_lent],
+            requests,
+            &mut answers[..answer_lent],
+        );
+        if batched != came.batched() {
+            return differ("what the batch came to", batched, came.batched());
+        }
+        if let Some(at) = (0..answers.len()).find(|at| answers[*at] != expected_answers[*at]) {
+            let what = format!("answer word {at} ({} of request {})", ["number", "orders"][at % 2], at / 2);
+            return differ(what, answers[at], expected_answers[at]);
+        }
+        self.expected_words_stand()?;
+        if requests != requests_before {
+            return differ("the requests", format!("{requests:?}"), format!("{requests_before:?}"));
+        }
+        if is_cache {
+            let mut answers = unused;
+            let by_steps =
+                batch::by_steps(&mut table[..lent], &mut orders[..order_lent], requests, &mut answers[..answer_lent]);
+            if by_steps != batched || answers != expected_answers || table != self.table || orders != self.orders {
+                return differ("the batch beside single steps", batched, by_steps);
+            }
+        }
+        self.count_batch(lent, requests, answer_lent, &came, tally);
+        self.hand_in(tally);
+        self.report(self.table.len(), tally)?;
+        Ok(batched)
+    }
+
+    fn count_batch(&self, lent: usize, requests: &[u64], answer_lent: usize, came: &Came, tally: &mut Tally) {
+        let (done, given) = (came.answers.len(), came.orders.len() as u64);
+        tally.requests += done as u64;
+        tally.orders += given;
+        let mut mark = |place, when| {
+            if when {
+                tally.batches.mark(place);
+            }
+        };
+        let whole = requests.len() / REQUEST_WORDS;
+        let for_answers = came.stopped_for_answers(answer_lent);
+        let for_orders = came.number == 2 && !for_answers;
+        let all = came.number == 0;
+        mark(BatchPlace::Batch, true);
+        mark(BatchPlace::AllAnswered, all);
+        mark(BatchPlace::NoRequest, all && whole == 0);
+        mark(BatchPlace::OrdersOfMany, all && came.answers.iter().filter(|[_, orders]| *orders != 0).count() > 1);
+        mark(BatchPlace::StoppedForOrders, for_orders);
+        mark(BatchPlace::ForOrdersAtFirst, for_orders && done == 0);
+        mark(BatchPlace::ForOrdersAfterSome, for_orders && done != 0);
+        mark(BatchPlace::StoppedForAnswers, for_answers);
+        mark(BatchPlace::ForAnswersAtFirst, for_answers && done == 0);
+        mark(BatchPlace::ForAnswersAfterSome, for_answers && done != 0);
+        mark(BatchPlace::BatchOfDamaged, self.model.is_none());
+        mark(BatchPlace::BatchOfShort, self.model.as_ref().is_some_and(|m| lent < table::table_words(m.rows)));
+        mark(BatchPlace::PartOfRequest, requests.len() > REQUEST_WORDS * whole);
+        let first_refused = came.answers.iter().position(|[number, _]| *number != 0);
+        let last_accepted = came.answers.iter().rposition(|[number, _]| *number == 0);
+        mark(BatchPlace::RefusedInside, first_refused.is_some_and(|refused| Some(refused) < last_accepted));
+        for (words, [number, _]) in requests.chunks_exact(REQUEST_WORDS).zip(&came.answers) {
+            mark(BatchPlace::BatchRequest, true);
+            mark(if *number == 0 { BatchPlace::BatchAccepted } else { BatchPlace::BatchRefused }, true);
+            match words[0] {
+                kind if batch::KINDS.contains(&kind) => {}
+                12 => mark(BatchPlace::BatchTake, true),
+                13 => mark(BatchPlace::BatchConfigure, true),
+                _ => mark(BatchPlace::BatchUnknown, true),
+            }
+        }
     }
 
     pub fn report(&mut self, lent: usize, tally: &mut Tally) -> Result<(), Difference> {

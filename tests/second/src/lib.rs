@@ -1,5 +1,6 @@
 //! The second program: an independent reading of the rules, compared with the library through C.
 
+pub mod batch;
 pub mod boundary;
 pub mod cache;
 pub mod ledger;

@@ -18,6 +18,14 @@ pub struct Verdict {
     pub field: u64,
 }
 
+/// What a batch came to.
+#[derive(Clone, Copy, Debug, PartialEq, Eq)]
+pub struct Batched {
+    pub number: u64,
+    pub done: u64,
+    pub orders: u64,
+}
+
 impl Answer {
     pub fn verdict(&self) -> Verdict {
         Verdict { number: self.number, field: self.field }
@@ -45,6 +53,12 @@ impl std::fmt::Display for Answer {
             (_, 0) => Ok(()),
             (_, orders) => write!(f, ", {orders} orders"),
         }
+    }
+}
+
+impl std::fmt::Display for Batched {
+    fn fmt(&self, f: &mut std::fmt::Formatter) -> std::fmt::Result {
+        write!(f, "number {}, {} requests answered, {} orders", self.number, self.done, self.orders)
     }
 }
 
@@ -122,6 +136,24 @@ pub fn step(table: &mut [u64], orders: &mut [u64], list: &[u64], asked: &Asked) 
             request_of(asked),
         )
     })
+}
+
+pub fn batch(table: &mut [u64], orders: &mut [u64], requests: &[u64], answers: &mut [u64]) -> Batched {
+    let (table_words, order_words, answer_words) = (table.len(), orders.len(), answers.len());
+    // SAFETY: the slices are ours for the call, and borrowed apart.
+    let b = unsafe {
+        raw::speldervacht_batch(
+            start_mut(table),
+            table_words,
+            start_mut(orders),
+            order_words,
+            start(requests),
+            requests.len(),
+            start_mut(answers),
+            answer_words,
+        )
+    };
+    Batched { number: b.number, done: b.done, orders: b.orders }
 }
 
 pub fn ask(table: &[u64], order_words: usize, list: &[u64], asked: &Asked) -> Verdict {

@@ -26,14 +26,29 @@ fn shortest_run(mut run: Run, first: Difference) -> (Run, Difference) {
     let base = run.clone();
     run.events = shrink(run.events, |events| with(&base, events).replay().is_some());
     for i in 0..run.events.len() {
-        if let Event::Put { words } = run.events[i].clone() {
-            let base = run.clone();
-            let put = |words: &[(usize, u64)]| {
-                let mut run = base.clone();
-                run.events[i] = Event::Put { words: words.to_vec() };
-                run
-            };
-            run = put(&shrink(words, |words| put(words).replay().is_some()));
+        let base = run.clone();
+        let with = |event: Event| {
+            let mut run = base.clone();
+            run.events[i] = event;
+            run
+        };
+        let shows = |event: Event| with(event).replay().is_some();
+        match run.events[i].clone() {
+            Event::Put { words } => {
+                let put = |words: &[(usize, u64)]| Event::Put { words: words.to_vec() };
+                run = with(put(&shrink(words, |words| shows(put(words)))));
+            }
+            Event::Batch { lent, order_lent, answer_lent, requests, part } => {
+                let batch = |requests: &[[u64; 3]]| Event::Batch {
+                    lent,
+                    order_lent,
+                    answer_lent,
+                    requests: requests.to_vec(),
+                    part: part.clone(),
+                };
+                run = with(batch(&shrink(requests, |requests| shows(batch(requests)))));
+            }
+            _ => {}
         }
     }
     let difference = match run.replay() {

@@ -81,6 +81,31 @@ places! { AskPlace in AskReached:
     OfDamaged "  of a table that is no cache",
 }
 
+// What batches did. A request is refused inside if one behind it is accepted.
+places! { BatchPlace in BatchReached:
+    Batch "batches",
+    AllAnswered "  with every request answered",
+    OrdersOfMany "    with orders of two requests or more",
+    NoRequest "    of no request",
+    StoppedForOrders "  stopped for order words",
+    ForOrdersAtFirst "    before the first request",
+    ForOrdersAfterSome "    after some",
+    StoppedForAnswers "  stopped for answer words",
+    ForAnswersAtFirst "    before the first request",
+    ForAnswersAfterSome "    after some",
+    RestGoneOnWith "  of what one that had stopped left",
+    BatchOfDamaged "  of a table that is no cache",
+    BatchOfShort "  of a table that is too short",
+    PartOfRequest "  with a part of a request at the end",
+    RefusedInside "  with a request refused inside",
+    BatchRequest "requests in batches",
+    BatchAccepted "  accepted",
+    BatchRefused "  refused",
+    BatchTake "    take",
+    BatchConfigure "    configure",
+    BatchUnknown "    of an unknown kind",
+}
+
 // What a lead and a standby do.
 places! { PairPlace in PairReached:
     SharedAccepted "shared changes that both accepted",

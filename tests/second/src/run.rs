@@ -1,9 +1,11 @@
 //! A random run of one cache.
 
-use crate::boundary::{settings_of, settings_words, Asked, SettingsWords, KINDS};
+use crate::batch::{self, ANSWER_WORDS, REQUEST_WORDS};
+use crate::boundary::{request_of, settings_of, settings_words, Asked, SettingsWords, KINDS};
 use crate::cache::{Cache, Difference};
 use crate::model::{order_words, Mode, ROW_LIMIT, THRESHOLD_LIMIT};
 use crate::random::Random;
+use crate::reached::BatchPlace;
 use crate::requests::{self, Phase, Scale};
 use crate::table::{self, table_words};
 use crate::tally::Tally;
@@ -29,6 +31,15 @@ pub enum Event {
         order_lent: usize,
         list: Vec<u64>,
         asked: Asked,
+    },
+    /// Many requests in one call, of three words each.
+    Batch {
+        lent: usize,
+        order_lent: usize,
+        answer_lent: usize,
+        requests: Vec<[u64; REQUEST_WORDS]>,
+        /// The words past the last request, one or two if any.
+        part: Vec<u64>,
     },
     Report {
         lent: usize,
@@ -62,6 +73,10 @@ impl Run {
             }
             Event::Ask { lent, order_lent, list, asked } => {
                 cache.ask(*lent, *order_lent, list, asked, tally).map(|_| ())
+            }
+            Event::Batch { lent, order_lent, answer_lent, requests, part } => {
+                let words = [requests.as_flattened(), part].concat();
+                cache.batch(*lent, *order_lent, &words, *answer_lent, tally).map(|_| ())
             }
             Event::Report { lent } => cache.report(*lent, tally),
             Event::Put { words } => {
@@ -179,6 +194,7 @@ impl Player<'_> {
         for _ in 0..self.r.between(1, 3) {
             let (asked, list) = requests::blind_request(&mut self.r, rows);
             self.ask(rows, asked, list)?;
+            self.blind_batch(rows)?;
             let (asked, list) = requests::blind_request(&mut self.r, rows);
             let order_lent = if self.r.chance(90) { self.run.order_words } else { 0 };
             let lent = self.run.table_words;
@@ -197,6 +213,64 @@ impl Player<'_> {
         let needed = order_words(rows);
         let order_lent = self.r.pick(&[0, 1, needed - 1, needed, needed, needed + 1, usize::MAX]);
         self.happen(Event::Ask { lent, order_lent, list, asked })
+    }
+
+    /// A batch of these requests, and if it stops after some, mostly one of the rest.
+    fn batch(&mut self, rows: usize, mut requests: Vec<[u64; REQUEST_WORDS]>) -> Result<(), Difference> {
+        let mut gone_on = false;
+        loop {
+            let lent = self.lent(table_words(rows));
+            let needed = order_words(rows);
+            let order_lent = match self.r.below(10) {
+                0 => self.r.pick(&[0, 1, needed - 1, needed]),
+                _ => self.r.between(needed as u64, self.run.order_words as u64) as usize,
+            };
+            let answer_lent = match self.r.below(8) {
+                0 => self.r.below(ANSWER_WORDS as u64 * requests.len() as u64 + 1) as usize,
+                _ => ANSWER_WORDS * requests.len() + self.r.below(3) as usize,
+            };
+            let part = (0..self.r.pick(&[0, 0, 0, 1, 2])).map(|_| self.r.below(14)).collect();
+            let done_before = self.tally.requests;
+            self.happen(Event::Batch { lent, order_lent, answer_lent, requests: requests.clone(), part })?;
+            if gone_on {
+                self.tally.batches.mark(BatchPlace::RestGoneOnWith);
+            }
+            let done = (self.tally.requests - done_before) as usize;
+            if done == 0 || done == requests.len() || self.r.chance(20) {
+                return Ok(());
+            }
+            requests.drain(..done);
+            gone_on = true;
+        }
+    }
+
+    /// A batch whose requests are drawn each from the state that those before it lead to.
+    fn sensible_batch(&mut self, phase: &Phase) -> Result<(), Difference> {
+        let Some(mut m) = self.cache.model.clone() else { return Ok(()) };
+        let length = match self.r.below(10) {
+            0 => self.r.below(3),
+            1 => self.r.between(20, 80),
+            _ => self.r.between(3, 20),
+        };
+        let mut requests = Vec::new();
+        for _ in 0..length {
+            let (asked, _) = requests::request(&mut self.r, &m, phase, self.scale);
+            requests.push([asked.kind, asked.address, asked.size]);
+            if batch::KINDS.contains(&asked.kind) {
+                let _ = m.step(&request_of(&asked), &[], order_words(m.rows));
+            }
+        }
+        self.batch(m.rows, requests)
+    }
+
+    /// A batch of requests with nothing known of the cache.
+    fn blind_batch(&mut self, rows: usize) -> Result<(), Difference> {
+        let blind = |r: &mut Random| {
+            let (asked, _) = requests::blind_request(r, rows);
+            [asked.kind, asked.address, asked.size]
+        };
+        let requests = (0..self.r.below(5)).map(|_| blind(&mut self.r)).collect();
+        self.batch(rows, requests)
     }
 
     /// The rows of the cache, and a request as the phase has them.
@@ -240,6 +314,7 @@ impl Player<'_> {
                     let rows = if large { rows } else { self.r.between(1, rows as u64) as usize };
                     self.open(rows)?;
                 }
+                16..=35 => self.sensible_batch(&phase)?,
                 _ if self.r.chance(states) => self.put_state()?,
                 _ => self.step(&phase)?,
             }
@@ -255,7 +330,7 @@ pub fn play(seed: u64, large: bool, tally: &mut Tally) -> Result<(), Box<(Run, D
     let length = if large { 100 } else { r.between(200, 2_500) };
     let run = Run {
         table_words: table_words(rows) + r.below(6) as usize,
-        order_words: order_words(rows) + r.below(6) as usize,
+        order_words: order_words(rows) + if r.chance(50) { r.below(6) } else { r.below(180) } as usize,
         events: Vec::new(),
     };
     let before = tally.requests;
@@ -311,6 +386,17 @@ impl std::fmt::Display for Run {
                     }
                     if *order_lent != self.order_words {
                         write!(f, " [{order_lent} order words lent]")?;
+                    }
+                }
+                Event::Batch { lent, order_lent, answer_lent, requests, part } => {
+                    write!(f, "batch of {} requests", requests.len())?;
+                    write!(f, " [{lent} table words, {order_lent} order words, {answer_lent} answer words lent]")?;
+                    for [kind, address, size] in requests {
+                        let asked = Asked { kind: *kind, address: *address, size: *size, settings: [0; 22] };
+                        write!(f, "\n  {}", asked_text(&asked, &[]))?;
+                    }
+                    if !part.is_empty() {
+                        write!(f, "\n  and the words {part:?}")?;
                     }
                 }
                 Event::Report { lent } => write!(f, "report [{lent} table words lent]")?,

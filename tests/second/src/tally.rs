@@ -2,7 +2,7 @@
 
 use crate::boundary::KINDS;
 use crate::library::Answer;
-use crate::reached::{AskReached, PairReached, Reached};
+use crate::reached::{AskReached, BatchReached, PairReached, Reached};
 
 #[derive(Clone, Default)]
 pub struct Tally {
@@ -10,7 +10,7 @@ pub struct Tally {
     pub largest_runs: u64,
     pub pair_runs: u64,
     pub pair_runs_by_asking: u64,
-    /// Openings and steps.
+    /// Openings, steps and requests that batches answered.
     pub requests: u64,
     pub largest_requests: u64,
     pub reports: u64,
@@ -25,6 +25,7 @@ pub struct Tally {
     pub longest_list: u64,
     pub reached: Reached,
     pub asked: AskReached,
+    pub batches: BatchReached,
     pub pairs: PairReached,
 }
 
@@ -40,7 +41,7 @@ impl Tally {
         }
     }
 
-    /// All requests but openings.
+    /// All requests but openings and those in batches.
     fn steps(&self) -> u64 {
         self.answers[..OPENING].iter().flatten().sum()
     }
@@ -78,6 +79,8 @@ impl Tally {
         println!("\nasking");
         line(("requests asked about and then done", self.steps()));
         self.asked.iter().for_each(line);
+        println!("\nbatches");
+        self.batches.iter().for_each(line);
         println!("\nlead and standby");
         line(("runs", self.pair_runs));
         line(("  by asking", self.pair_runs_by_asking));
@@ -87,7 +90,8 @@ impl Tally {
 
     /// What no run reached.
     pub fn never_reached(&self) -> Vec<&'static str> {
-        let places = self.reached.iter().chain(self.asked.iter()).chain(self.pairs.iter());
+        let one_cache = self.reached.iter().chain(self.asked.iter()).chain(self.batches.iter());
+        let places = one_cache.chain(self.pairs.iter());
         places.filter(|(_, times)| *times == 0).map(|(name, _)| name.trim_start()).collect()
     }
 }

@@ -1,6 +1,7 @@
 //! The model gives the worked cases of the rules, and the judge and the picture are each other's
 //! inverse.
 
+use second::batch;
 use second::model::{
     self, order_words, Cap, Decrease, Flash, Increase, Mode, Model, Order, Request, Settings, ALL_ONES,
 };
@@ -54,6 +55,29 @@ fn p1_orders() -> Vec<Order> {
         Order::Write { address: 200, size: 1_000 },
         Order::Evict { address: 100, size: 3_000 },
     ]
+}
+
+/// P1 with a refused insert and a configure between, and one insert more.
+#[test]
+fn p1_in_a_batch() {
+    let requests = [1, 100, 3_000, 1, 100, 1, 13, 0, 0, 1, 200, 1_000, 1, 300, 500, 1, 400, 10];
+    let enough = order_words(4) + 3 * 3;
+    let answers = [[0, 0], [7, 0], [5, 0], [0, 0], [0, 3], [0, 0]];
+    // All are answered; then too few order words for the last by one; no words for the last two answers;
+    // no order words; the last request without its size.
+    for (number, done, order_words, answer_words, words) in [
+        (0, 6, enough, 12, 18),
+        (2, 5, enough - 1, 12, 18),
+        (2, 4, enough, 9, 18),
+        (2, 0, 0, 12, 18),
+        (0, 5, enough, 12, 17),
+    ] {
+        let mut m = small();
+        let came = batch::on_model(&mut m, &requests[..words], order_words, answer_words);
+        assert_eq!((came.number, &came.answers[..]), (number, &answers[..done]));
+        assert_eq!(came.orders, if done < 5 { vec![] } else { p1_orders() });
+        assert_eq!(m.entries.len(), [0, 1, 1, 1, 2, 2, 3][done]);
+    }
 }
 
 #[test]
