@@ -32,16 +32,16 @@ static uint64_t sizes[PLACES];                      /* the index: 0 where there 
 static unsigned char expected[PLACES][PLACE_BYTES]; /* each record as it was last changed */
 static unsigned writes, loads, undone, records;
 
-static void stop(const char *why) {
-    fprintf(stderr, "stopped: %s\n", why);
-    exit(1);
+static void check(int good, const char *otherwise) {
+    if (!good) {
+        fprintf(stderr, "stopped: %s\n", otherwise);
+        exit(1);
+    }
 }
 
 static unsigned char *allocated(uint64_t size) {
     unsigned char *record = malloc(size);
-    if (record == NULL) {
-        stop("no memory");
-    }
+    check(record != NULL, "no memory");
     return record;
 }
 
@@ -68,8 +68,7 @@ static int transfer(uint64_t kind, uint64_t address, uint64_t size) {
 
 /* The orders that can fail. A flush is done once the disk has it. */
 static int write_and_load(uint64_t count, int flush) {
-    for (uint64_t i = 0; i < count; i++) {
-        const uint64_t *order = orders + 3 * i;
+    for (const uint64_t *order = orders; order < orders + 3 * count; order += 3) {
         if (order[0] != SPELDERVACHT_EVICT && transfer(order[0], order[1], order[2]) != 0) {
             return -1;
         }
@@ -103,27 +102,14 @@ static uint64_t request(uint64_t kind, uint64_t address, uint64_t size) {
     return answer.number;
 }
 
-/* Memory has as many records as the table. */
-static void check_memory(void) {
-    uint64_t there = 0;
-    for (uint64_t address = 0; address < PLACES; address++) {
-        there += memory[address] != NULL;
-    }
-    if (speldervacht_report(table, TABLE).entries != there) {
-        stop("memory is not what the table says");
-    }
-}
-
 /* A request that is to be accepted, tried once more where an order failed. */
 static void must(uint64_t kind, uint64_t address, uint64_t size) {
     uint64_t number = request(kind, address, size);
     if (number == FAILED) {
-        check_memory();
         number = request(kind, address, size);
     }
-    if (number != SPELDERVACHT_ACCEPTED) {
-        stop(number == FAILED ? "an order failed again" : speldervacht_text(number));
-    }
+    check(number != FAILED, "an order failed again");
+    check(number == SPELDERVACHT_ACCEPTED, speldervacht_text(number));
 }
 
 static void open_cache(void) {
@@ -132,9 +118,8 @@ static void open_cache(void) {
     settings.initial = settings.smallest = settings.largest = 1900;
     settings.clean = 0.0;
     answer = speldervacht_open(table, TABLE, ROWS, SPELDERVACHT_ALONE, SPELDERVACHT_DEFAULT_THRESHOLD, settings);
-    if (answer.number != SPELDERVACHT_ACCEPTED) {
-        stop(answer.field != 0 ? speldervacht_field(answer.field) : speldervacht_text(answer.number));
-    }
+    check(answer.number != SPELDERVACHT_BAD_SETTING, speldervacht_field(answer.field));
+    check(answer.number == SPELDERVACHT_ACCEPTED, speldervacht_text(answer.number));
 }
 
 /* ---- records */
@@ -161,9 +146,7 @@ static void change(uint64_t address) {
 
 static void look_at(uint64_t address) {
     must(SPELDERVACHT_PROTECT_FOR_READING, address, sizes[address]);
-    if (memcmp(memory[address], expected[address], sizes[address]) != 0) {
-        stop("a record is not as it was last changed");
-    }
+    check(memcmp(memory[address], expected[address], sizes[address]) == 0, "a record is not as it was last changed");
     must(SPELDERVACHT_RELEASE_UNCHANGED, address, 0); /* its orders may evict the record */
 }
 
