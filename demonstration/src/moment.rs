@@ -29,7 +29,7 @@ pub enum Moment {
     LeadOnly,
     /// The last list of a move was taken, and the lead has not handed over.
     BeforeSwitch,
-    /// The lead has brought in so many of the records that its new standby is to have.
+    /// The lead has brought in so many batches of the records that its new standby is to have.
     LeadCatchingUp,
     /// The standby has got a list whole, and has not taken it.
     BeforeTake,
@@ -37,7 +37,7 @@ pub enum Moment {
     Unacknowledged,
     /// The standby of a move leads now, and has not said so.
     Switched,
-    /// The new standby has had so many of the records that it is to have.
+    /// The new standby has brought in one batch more, and has not said so.
     StandbyCatchingUp,
 }
 

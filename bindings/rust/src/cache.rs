@@ -172,34 +172,34 @@ impl Cache {
     ///
     /// [`Refusal::BadTable`] if the words were damaged in memory. Then no request was done.
     pub fn batch<'b>(&'b mut self, requests: &'b [PlainRequest]) -> Result<Answers<'b>, Refusal> {
-        // A damaged table may name any number of rows.
-        let rows = self.rows().min(crate::MOST_ROWS);
-        self.answers.resize(requests.len(), [0; layout::ANSWER_WORDS]);
-        let (mut done, mut given) = (0, 0);
-        loop {
-            let rest = &requests[done..];
-            let lent = order_words(rows) + layout::ORDER_WORDS * (given + rest.len());
-            self.orders.resize(lent.max(self.orders.len()), 0);
-            let orders = &mut self.orders[layout::ORDER_WORDS * given..];
-            let answers = batch(&mut self.table, orders, rest, &mut self.answers[done..])?;
-            done += answers.len();
-            given += answers.orders();
-            if done == requests.len() {
-                break;
-            }
-        }
-        Ok(Answers::new(requests, &self.answers, &self.orders, self.mode()))
+        batch_to_its_end(&mut self.table, &mut self.orders, &mut self.answers, requests)
     }
 
     /// Does a request on a copy of the table, for [`exchange`](Cache::exchange) to make it the cache's.
     #[cfg(feature = "std")]
     pub(crate) fn step_on_copy(&mut self, copy: &mut Vec<u64>, request: &Request) -> Result<Orders<'_>, Refusal> {
-        copy.clear();
-        copy.extend_from_slice(&self.table);
+        self.copy_to(copy);
         step(copy, &mut self.orders, request)
     }
 
-    /// Exchanges the table with a copy on which a request was done.
+    /// Does a batch on a copy of the table, for [`exchange`](Cache::exchange) to make it the cache's.
+    #[cfg(feature = "std")]
+    pub(crate) fn batch_on_copy<'b>(
+        &'b mut self,
+        copy: &mut Vec<u64>,
+        requests: &'b [PlainRequest],
+    ) -> Result<Answers<'b>, Refusal> {
+        self.copy_to(copy);
+        batch_to_its_end(copy, &mut self.orders, &mut self.answers, requests)
+    }
+
+    #[cfg(feature = "std")]
+    fn copy_to(&self, copy: &mut Vec<u64>) {
+        copy.clear();
+        copy.extend_from_slice(&self.table);
+    }
+
+    /// Exchanges the table with a copy on which requests were done.
     #[cfg(feature = "std")]
     pub(crate) fn exchange(&mut self, copy: &mut Vec<u64>) {
         core::mem::swap(&mut self.table, copy);
@@ -406,6 +406,32 @@ impl Cache {
     pub fn recency(&self) -> Entries<'_> {
         self.view().recency()
     }
+}
+
+/// Does all requests, with more order words whenever those there are too few.
+fn batch_to_its_end<'b>(
+    table: &mut [u64],
+    order_space: &'b mut Vec<u64>,
+    answer_space: &'b mut Vec<[u64; layout::ANSWER_WORDS]>,
+    requests: &'b [PlainRequest],
+) -> Result<Answers<'b>, Refusal> {
+    // A damaged table may name any number of rows.
+    let rows = View::unjudged(table).rows().min(crate::MOST_ROWS);
+    answer_space.resize(requests.len(), [0; layout::ANSWER_WORDS]);
+    let (mut done, mut given) = (0, 0);
+    loop {
+        let rest = &requests[done..];
+        let lent = order_words(rows) + layout::ORDER_WORDS * (given + rest.len());
+        order_space.resize(lent.max(order_space.len()), 0);
+        let orders = &mut order_space[layout::ORDER_WORDS * given..];
+        let answers = batch(table, orders, rest, &mut answer_space[done..])?;
+        done += answers.len();
+        given += answers.orders();
+        if done == requests.len() {
+            break;
+        }
+    }
+    Ok(Answers::new(requests, answer_space, order_space, View::unjudged(table).mode()))
 }
 
 impl PartialEq for Cache {

@@ -1,10 +1,12 @@
 //! A cache, the records that it has, and the store that they come from.
 
+mod bring_in;
 mod error;
 mod guard;
 mod memory;
 mod store;
 
+pub use bring_in::NotBroughtIn;
 pub use error::{Call, HostError};
 pub use guard::{NotChanged, ReadGuard, WriteGuard};
 pub use store::Store;
@@ -118,8 +120,8 @@ use std::{sync::Arc, vec::Vec};
 ///
 /// The copy takes 64 bytes for each row, and about a third of the time that judging the table takes: 6
 /// microseconds at 4,096 rows. It is made only where the store may be called: alone at every request
-/// that can give orders; at a lead and a standby at a miss, a flush and a sync. What a request evicts
-/// stays in memory until all its orders are carried out.
+/// that can give orders; at a lead and a standby at a miss, a flush and a sync; in any mode where many
+/// records are brought in. What a request evicts stays in memory until all its orders are carried out.
 pub struct Host<S> {
     cache: Cache,
     memory: Memory<S>,

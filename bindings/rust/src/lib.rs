@@ -147,7 +147,7 @@ pub use cache::{Access, Builder, Cache, Protected};
 #[cfg(feature = "alloc")]
 pub use change::Change;
 #[cfg(feature = "std")]
-pub use host::{Call, Host, HostError, NotChanged, ReadGuard, Store, WriteGuard};
+pub use host::{Call, Host, HostError, NotBroughtIn, NotChanged, ReadGuard, Store, WriteGuard};
 pub use layout::{order_words, table_words};
 #[cfg(feature = "alloc")]
 pub use list::List;

@@ -3,10 +3,11 @@
 use super::{Event, Failure, HostProcess};
 use crate::mistake::Mistake;
 use crate::moment::Moment;
-use crate::wire::message::{Message, MoveTimes};
+use crate::wire::message::{Message, MoveTimes, MOST_AT_ONCE};
 use crate::wire::socket;
 use speldervacht::{Change, List, Mode, Refusal, Store};
 use std::io::Write;
+use std::sync::Arc;
 use std::time::Instant;
 
 impl HostProcess {
@@ -27,14 +28,20 @@ impl HostProcess {
         Ok(())
     }
 
-    /// The new standby gets each record that was dirty, and both have it as inserted.
+    /// The new standby gets the records that were dirty, some at a time, and both have them as inserted. They
+    /// are not asked: both caches are fresh, and each has rows for all that was dirty at both.
     pub(super) fn bring_in(&mut self) -> Result<(), Failure> {
         let (link, _) = self.listener.take().ok_or(Failure::Alone)?.accept()?;
         self.connect(link)?;
-        while let Some((address, bytes)) = self.waiting.first_key_value().map(|(at, bytes)| (*at, bytes.clone())) {
+        while !self.waiting.is_empty() {
             self.control.stop_at(Moment::LeadCatchingUp);
-            self.share(0, &Change::Insert { address, bytes })?;
-            self.waiting.remove(&address);
+            let first = self.waiting.iter().take(MOST_AT_ONCE);
+            let records: Vec<(u64, Arc<[u8]>)> = first.map(|(address, bytes)| (*address, bytes.clone())).collect();
+            self.insert(&records)?;
+            for (address, _) in &records {
+                self.waiting.remove(address);
+            }
+            self.tell(&Message::Records { records })?;
         }
         Ok(())
     }

@@ -22,9 +22,12 @@ impl HostProcess {
             Message::Ask { change } => self.ready(&change)?,
             Message::Do { number, change } => {
                 self.apply(number, &change)?;
-                let moment = if number == 0 { Moment::StandbyCatchingUp } else { Moment::Unacknowledged };
-                self.control.stop_at(moment);
+                self.control.stop_at(Moment::Unacknowledged);
                 self.forget(&change)?;
+            }
+            Message::Records { records } => {
+                self.insert(&records)?;
+                self.control.stop_at(Moment::StandbyCatchingUp);
             }
             Message::List { addresses } => self.take(List::from_words(addresses))?,
             Message::Switch => {

@@ -7,7 +7,7 @@ use super::play::{self, Action};
 use super::process::Heard;
 use super::Referee;
 use crate::moment::Moment;
-use crate::wire::message::Message;
+use crate::wire::message::{Message, MOST_AT_ONCE};
 use std::thread::sleep;
 use std::time::Instant;
 
@@ -150,10 +150,11 @@ impl Referee {
         Ok(())
     }
 
-    /// The kill, after a random number of the records that are to be brought in.
+    /// The kill, after a random number of the batches in which the records are brought in.
     fn amid_catching_up(&mut self, kill: Kill, records: u64) -> Kill {
+        let batches = records.div_ceil(MOST_AT_ONCE as u64);
         match kill {
-            Kill::At { moment, .. } => Kill::At { moment, after: self.random.below(records) },
+            Kill::At { moment, .. } => Kill::At { moment, after: self.random.below(batches) },
             later => later,
         }
     }

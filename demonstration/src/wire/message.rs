@@ -7,6 +7,10 @@ use crate::moment::Moment;
 use speldervacht::Change;
 use std::io::{self, Write};
 use std::os::unix::net::UnixStream;
+use std::sync::Arc;
+
+/// The most records that are brought in at once.
+pub const MOST_AT_ONCE: usize = 3;
 
 /// A record in a host's memory.
 #[derive(Clone, Debug, PartialEq, Eq)]
@@ -119,16 +123,18 @@ messages! {
 
     // ---- from the lead to the standby
     23 Ask { change: Change };
-    /// A change that both said yes to. Number 0 is a record that is brought in.
+    /// A change that both said yes to.
     24 Do { number: u64, change: Change };
-    25 List { addresses: Vec<u64> };
+    /// Some of the records with which a new standby catches up.
+    25 Records { records: Vec<(u64, Arc<[u8]>)> };
+    26 List { addresses: Vec<u64> };
     /// The standby leads from now on.
-    26 Switch;
+    27 Switch;
 
     // ---- answers to any of them
-    27 Done;
+    28 Done;
     /// A refusal of the library: its number, and who refuses what in words. Number 0 is another failure.
-    28 Refused { number: u64, text: String };
+    29 Refused { number: u64, text: String };
 }
 
 impl Message {
@@ -158,6 +164,7 @@ mod tests {
         let mut samples = changes.map(|change| Message::Do { number, change }).to_vec();
         samples.extend([
             Message::BringIn,
+            Message::Records { records: vec![(address, [1, 2][..].into()), (number, [3][..].into())] },
             Message::Read { address, keep: true, pin: false },
             Message::Stop { moment: Moment::StandbyCatchingUp, after: 2 },
             Message::MakeMistake { mistake: Mistake::Reorder },

@@ -6,6 +6,7 @@ use crate::mistake::Mistake;
 use crate::moment::Moment;
 use speldervacht::Change;
 use std::io;
+use std::sync::Arc;
 
 pub trait Value: Sized {
     fn put(&self, out: &mut Writer);
@@ -52,34 +53,28 @@ impl Value for String {
     }
 }
 
-impl Value for Vec<u64> {
-    fn put(&self, out: &mut Writer) {
-        put_each(out, self);
-    }
-
-    fn take(from: &mut Reader) -> io::Result<Vec<u64>> {
-        take_each(from)
-    }
-}
-
-impl Value for Vec<Resident> {
-    fn put(&self, out: &mut Writer) {
-        put_each(out, self);
-    }
-
-    fn take(from: &mut Reader) -> io::Result<Vec<Resident>> {
-        take_each(from)
-    }
-}
-
 /// How many, and then each.
-fn put_each(out: &mut Writer, values: &[impl Value]) {
-    out.word(values.len() as u64);
-    values.iter().for_each(|value| value.put(out));
+impl<T: Value> Value for Vec<T> {
+    fn put(&self, out: &mut Writer) {
+        out.word(self.len() as u64);
+        self.iter().for_each(|value| value.put(out));
+    }
+
+    fn take(from: &mut Reader) -> io::Result<Vec<T>> {
+        (0..from.word()?).map(|_| T::take(from)).collect()
+    }
 }
 
-fn take_each<T: Value>(from: &mut Reader) -> io::Result<Vec<T>> {
-    (0..from.word()?).map(|_| T::take(from)).collect()
+/// A record by its address.
+impl Value for (u64, Arc<[u8]>) {
+    fn put(&self, out: &mut Writer) {
+        out.word(self.0);
+        out.run(&self.1);
+    }
+
+    fn take(from: &mut Reader) -> io::Result<(u64, Arc<[u8]>)> {
+        Ok((from.word()?, from.run()?.into()))
+    }
 }
 
 /// Values with these fields, each put in turn.

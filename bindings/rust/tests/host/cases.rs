@@ -2,6 +2,7 @@
 
 use crate::disk::{state, Handle};
 use speldervacht::{Access, Cache, Call, Host, HostError, Refusal, Settings, Store};
+use std::sync::Arc;
 
 /// Alone, 4,096 bytes, of which so large a share is to be clean.
 fn alone(rows: usize, clean_fraction: f64) -> Host<Handle> {
@@ -228,6 +229,17 @@ fn a_store_that_panics_leaves_the_host_as_it_was() {
     assert!(std::panic::catch_unwind(flush).is_err());
     assert_eq!(host.cache(), &before);
     assert_eq!(host.dirty().count(), 1);
+}
+
+#[test]
+fn a_store_that_panics_leaves_what_was_brought_in_before() {
+    let mut host = Host::open(&Cache::builder().rows(2), Panicking).unwrap();
+    let records: [(u64, Arc<[u8]>); 3] = [100, 200, 300].map(|address| (address, [1; 10].into()));
+    // There is no row for the third until the first is written.
+    let bring_in = std::panic::AssertUnwindSafe(|| host.bring_in(&records));
+    assert!(std::panic::catch_unwind(bring_in).is_err());
+    assert!(host.dirty().map(|(address, _)| address).eq([100, 200]));
+    assert_eq!(host.cache().entries().len(), 2);
 }
 
 #[test]

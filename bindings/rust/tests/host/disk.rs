@@ -34,6 +34,8 @@ pub struct Handle {
     pub reader: bool,
     /// How many more calls go well, if one is to fail.
     pub good_calls: Rc<Cell<Option<usize>>>,
+    /// All calls in turn.
+    pub calls: Rc<RefCell<Vec<String>>>,
     /// Calls that failed, by their first word.
     pub failures: Rc<RefCell<BTreeMap<String, usize>>>,
 }
@@ -41,6 +43,7 @@ pub struct Handle {
 impl Handle {
     /// Whether this call is the one that fails. The error is the call's text.
     fn fails(&self, call: &str) -> bool {
+        self.calls.borrow_mut().push(call.to_string());
         let left = self.good_calls.get();
         self.good_calls.set(left.and_then(|left| left.checked_sub(1)));
         if left == Some(0) {

@@ -195,9 +195,8 @@ impl Pair {
         self.lead = Side::new(Mode::Lead, lead);
         self.standby = Side::new(Mode::Standby, standby);
         self.tally.rescued += dirty.len();
-        for (address, bytes) in dirty {
-            assert!(self.both(&Change::Insert { address, bytes }), "record {address} is brought in");
-        }
+        self.lead.host.bring_in(&dirty).unwrap();
+        self.standby.host.bring_in(&dirty).unwrap();
     }
 
     /// A step that a cache refuses is left.
