@@ -4,10 +4,11 @@ use mathlib.Core.Bool.{true, false}
 use mathlib.Core.List.{List, [], _∷_, _++_, append-assoc, append-nil}
 use mathlib.Core.Option.{Option}
 use mathlib.Core.Path.{_≡_, refl, sym, ap, subst, _∙_}
+use native.Mathlib.Nat.{add-zero}
 use native.Mathlib.Numerals.{add-one}
 use native.Mathlib.Omega.{arith}
 use lib.ListN.{length, getD, take, drop, set, take-append-drop, length-append, length-drop, length-set, drop-of-length-le}
-use lib.Seq.{length-take-le, take-all, take-append-add, drop-append-add, take-suc-set, drop-set-lt, drop-drop}
+use lib.Seq.{length-take-le, take-all, take-append-add, drop-append-add, take-suc-set, drop-set-lt, drop-drop, getD-drop}
 use borrow.Author.Tests.{lt-ltb, le-ltb, eq-eqb, ne-eqb}
 use borrow.Rule.Slice.PartMut.{putMid}
 use Rattle.rules.specs.declared.answer.Answer.{Answer}
@@ -21,6 +22,11 @@ use Rattle.cache.specs.Tables.{Left, left}
 use Rattle.numbers.specs.Answers.{answerNumbers}
 use Rattle.numbers.specs.Meanings.{asked, plainOf}
 use Rattle.numbers.specs.declared.raw.RawAnswer.{RawAnswer}
+use Rattle.room.specs.Held.{HeldIs}
+use Rattle.room.specs.declared.held.Held.{Held}
+use Rattle.layout.specs.Picture.{cacheIn}
+use Rattle.batch.proofs.Quiet.{held-kept}
+use Rattle.batch.specs.Known.{keptFor}
 use Rattle.batch.proofs.Plain.{plain-floats, still-passes, orders-fit, lacking-same}
 use Rattle.batch.specs.Batch.{After, after, doneWith, lacksWords, stopped, before, oneByOne, batchWords}
 
@@ -230,3 +236,13 @@ module _ {whole : After} {requests table orders answers : List ℕ} {d g : ℕ} 
       (sym done-is)
       (doing-next k h i (still-passes table (drop (g * 3) orders) (k .passes) named (plain-floats (getD words 0 0) (getD words 1 0) (getD words 2 0)))
       (orders-fit table (drop (g * 3) orders) (k .passes) named same-orders) goes))
+
+  -- and what is kept of the held bytes holds
+  pub held-next : (n : ℕ) → n ≡ getD requests (d * 3) 0 → (known : Held) → HeldIs known (cacheIn table) → (next : Held) → next ≡ keptFor n (w .orders) known → HeldIs next (cacheIn t)
+  held-next n named-is known h next e =
+      let same : getD words 0 0 ≡ n = getD-drop (d * 3) requests 0 0 ∙ ap (λ (m : ℕ). getD requests m 0) (add-zero (d * 3)) ∙ sym named-is in
+      subst (λ (x : Held). HeldIs x (cacheIn t)) (sym e)
+      (subst (λ (x : Left). HeldIs (keptFor n (w .orders) known) (cacheIn (x .table))) (sym done-is)
+      (subst (λ (m : ℕ). HeldIs (keptFor m (w .orders) known) (cacheIn (first words table (drop (g * 3) orders) .table))) same
+      (held-kept table (drop (g * 3) orders) (k .passes) (getD words 0 0) (getD words 1 0) (getD words 2 0) (w .orders)
+      (ap (λ (u : RawAnswer). u .orders) as-told ∙ ap (λ (x : Left). answerOrders (x .answer)) done-is) known h)))

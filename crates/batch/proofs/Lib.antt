@@ -1,3 +1,4 @@
-pub mod Batching
 pub mod Plain
+pub mod Quiet
+pub mod Batching
 pub mod Carried

@@ -2,21 +2,30 @@
 ghost use mathlib.Core.Path.{_≡_};
 ghost use mathlib.Core.Bool.{true};
 ghost use Rattle.judge.specs.Verdict.{judgeWords};
+ghost use Rattle.layout.specs.Picture.{cacheIn};
+ghost use Rattle.room.specs.Held.{HeldIs};
 ghost use Rattle.cache.specs.Tables.{left, stepWords};
 use crate::work::carry_out;
 use judge::judge;
 use lists::take::take;
 use refusals::named::find_named;
 use refusals::refusal_of;
+use room::Held;
 use rules::answer::Answer;
 use rules::answer::Refusal;
 use rules::answer::Verdict;
 use rules::request::Request;
 use table::header::row_count;
 
-// The same as step, on a table that passed.
-pub fn step_judged(table: &mut [u64], orders: &mut [u64], list: &[u64], request: Request) -> Answer
-    requires { ⌜ judgeWords (now table) ≡ true ⌝ }
+// The same as step, on a table that passed. Held bytes that the caller knows are not summed at a release.
+pub fn step_judged(
+    table: &mut [u64],
+    orders: &mut [u64],
+    list: &[u64],
+    request: Request,
+    known: Held,
+) -> Answer
+    requires { ⌜ (judgeWords (now table) ≡ true) × HeldIs known (cacheIn (now table)) ⌝ }
     ensures { λ r. ⌜ left r (now (table .exit)) (now (orders .exit)) ≡ stepWords (now (table .entry)) (now (orders .entry)) (now (list .entry)) request ⌝ }
 {
     if let Request::Take = request {
@@ -28,7 +37,7 @@ pub fn step_judged(table: &mut [u64], orders: &mut [u64], list: &[u64], request:
     if let Verdict::Refused(refusal) = verdict {
         return Answer::Refused(refusal);
     }
-    let given = carry_out(table, orders, found, list, request);
+    let given = carry_out(table, orders, found, list, request, known);
     Answer::Accepted(given as u64)
 }
 
@@ -39,5 +48,5 @@ pub fn step(table: &mut [u64], orders: &mut [u64], list: &[u64], request: Reques
     if !judge(table) {
         return Answer::Refused(Refusal::Table);
     }
-    step_judged(table, orders, list, request)
+    step_judged(table, orders, list, request, Held::Unknown)
 }

@@ -7,6 +7,7 @@ ghost use Rattle.layout.specs.Picture.{cacheIn, restIn};
 ghost use Rattle.refusals.specs.Named.{foundFor};
 ghost use Rattle.refusals.specs.Unrefused.{Unrefused};
 ghost use Rattle.room.specs.Did.{Did};
+ghost use Rattle.room.specs.Held.{HeldIs};
 ghost use Rattle.cache.specs.Work.{NoTake};
 use configure::configure;
 use discard::discard;
@@ -20,6 +21,7 @@ use refusals::named::row_in;
 use release::release;
 use release::release_changed;
 use resize::resize;
+use room::Held;
 use rules::request::Request;
 use table::lookup::Found;
 
@@ -30,8 +32,9 @@ pub fn carry_out(
     found: Found,
     list: &[u64],
     request: Request,
+    known: Held,
 ) -> usize
-    requires { ⌜ Unrefused (now table) (asking request (now list) (length (now orders))) × NoTake request × (found ≡ foundFor (cacheIn (now table) .rows) request) ⌝ }
+    requires { ⌜ Unrefused (now table) (asking request (now list) (length (now orders))) × NoTake request × (found ≡ foundFor (cacheIn (now table) .rows) request) × HeldIs known (cacheIn (now table)) ⌝ }
     ensures { λ r. ⌜ Did (effect (cacheIn (now (table .entry))) (now (list .entry)) request) (restIn (now (table .entry))) (now (table .exit)) 0 (now (orders .entry)) (now (orders .exit)) r ⌝ }
 {
     let row = row_in(found);
@@ -42,7 +45,7 @@ pub fn carry_out(
             address,
             size,
         } => protect(table, orders, found, access, address, size),
-        Request::Release { address } => release(table, orders, row, address),
+        Request::Release { address } => release(table, orders, row, address, known),
         Request::ReleaseChanged { address, size } => {
             release_changed(table, orders, row, address, size)
         }

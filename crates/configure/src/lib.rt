@@ -12,6 +12,7 @@ ghost use Rattle.layout.specs.Holds.{Holds, Good};
 ghost use Rattle.layout.specs.Picture.{cacheIn, restIn};
 ghost use Rattle.refusals.specs.Unrefused.{Unrefused};
 ghost use Rattle.room.specs.Did.{Did};
+use room::Held;
 use room::make_room;
 use settings::Settings;
 use table::header::maximum;
@@ -45,6 +46,6 @@ pub fn configure(table: &mut [u64], orders: &mut [u64], s: Settings) -> usize
 {
     let rows = row_count(table);
     set_all(table, s);
-    let made = make_room(table, orders, rows, 0, false, 0);
+    let made = make_room(table, orders, rows, 0, false, 0, Held::Unknown);
     made.given
 }

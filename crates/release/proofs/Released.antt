@@ -8,13 +8,14 @@ use lib.ListN.{length}
 use borrow.Author.Tests.{eq-eqb}
 use Rattle.rules.proofs.Effects.{released-allowed}
 use Rattle.rules.proofs.Found.{get-amend, length-amend}
+use Rattle.rules.proofs.Totals.{total-same}
 use Rattle.rules.specs.Allowed.{EntryAllowed}
 use Rattle.rules.specs.Cache.{Cache, start, touch}
 use Rattle.rules.specs.Entries.{if_then_else_, isHeld, lessOne, changedTo, released}
 use Rattle.rules.specs.Refusals.{badSize, tooFewWords}
 use Rattle.rules.specs.Requests.{named, roomIfReleased}
 use Rattle.rules.specs.Room.{makeRoom}
-use Rattle.rules.specs.Rows.{get, passes, amend}
+use Rattle.rules.specs.Rows.{get, passes, amend, heldBytes}
 use Rattle.rules.specs.declared.entry.Entry.{Entry}
 use Rattle.rules.specs.declared.entry.Hold.{Hold}
 use Rattle.layout.proofs.Held.{holds-cache, holds-rest, onward}
@@ -26,6 +27,9 @@ use Rattle.table.specs.Told.{become}
 use Rattle.room.proofs.Kept.{did-start}
 use Rattle.room.proofs.Orders.{words-fit}
 use Rattle.room.specs.Did.{Did, Fits}
+use Rattle.room.specs.Held.{HeldIs}
+use Rattle.room.specs.declared.held.Held.{Held}
+use Rattle.room.specs.declared.held.Held.the-variants.{Known, Unknown}
 use Rattle.table.proofs.Amended.{Keeps, asks-touch, told-touch}
 use Rattle.resize.proofs.Resized.{changed-keeps}
 use Rattle.release.specs.Unheld.{roomUnlessHeld}
@@ -93,6 +97,12 @@ module _ (f : Entry → Entry) {a rows row : ℕ} {e x : Entry} (k : Releases f 
     room-asked lent t =
         let l = length-amend a f (d .rows) ∙ ap length same in
         (good-rows touched (q ∙ sym l), rw (holds-cache touched) (words-fit c (touch a f d) lent t l))
+
+    -- sizes stay, and so do the held bytes that are known
+    pub held-stays : ((y : Entry) → f y .size ≡ y .size) → (known : Held) → HeldIs known (cacheIn ws) → HeldIs known (cacheIn vs)
+    held-stays z (Known n) i =
+        i ∙ ap heldBytes (rows-told ∙ sym same) ∙ sym (total-same (λ y. y .size) a f z (d .rows)) ∙ ap (λ (b : Cache). heldBytes (b .rows)) (sym (holds-cache touched))
+    held-stays z Unknown i = tt
 
     -- the rules test the hold that is left
     hold-left : passes (λ y. isHeld (y .hold)) (get (amend a f (d .rows)) a) ≡ isHeld (lessOne (e .hold))

@@ -2,4 +2,5 @@ pub mod After
 pub mod Answered
 pub mod Did
 pub mod First
+pub mod Held
 pub mod Missing

@@ -1,8 +1,11 @@
 // Making room in the table.
+mod held;
 mod pass;
 mod room;
 mod share;
 
+pub use held::Held;
+pub use held::held_now;
 pub use pass::Evicted;
 pub use pass::Stop;
 pub use room::Done;

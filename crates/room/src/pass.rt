@@ -8,13 +8,15 @@ ghost use Rattle.layout.specs.Picture.{cacheIn, restIn};
 ghost use Rattle.table.specs.Asked.{GoodRows};
 ghost use Rattle.room.specs.Did.{Fits, Stopped};
 ghost use Rattle.room.specs.First.{evictIn};
+ghost use Rattle.room.specs.Held.{HeldIs};
+use crate::held::Held;
+use crate::held::held_now;
 use table::header::maximum;
 use table::lookup::dirty_at;
 use table::orders::evict_at;
 use table::orders::turn_tail;
 use table::runs::has_free;
 use table::runs::listed_len;
-use table::sums::held_bytes;
 
 // What stopped the loop.
 pub enum Stop {
@@ -47,12 +49,13 @@ pub fn evict_until(
     size: u64,
     row: bool,
     before: usize,
+    known: Held,
 ) -> Evicted
-    requires { ⌜ GoodRows (now table) rows × (size ≤ mostSize) × Fits (cacheIn (now table)) before (now orders) ⌝ }
+    requires { ⌜ GoodRows (now table) rows × (size ≤ mostSize) × Fits (cacheIn (now table)) before (now orders) × HeldIs known (cacheIn (now table)) ⌝ }
     ensures { λ r. ⌜ Stopped size row (evictIn alone size row (cacheIn (now (table .entry)))) (restIn (now (table .entry))) (now (table .exit)) before (now (orders .entry)) (now (orders .exit)) r ⌝ }
 {
     let maximum = maximum(table);
-    let mut held = held_bytes(table, rows);
+    let mut held = held_now(table, rows, known);
     let mut free = has_free(table, rows);
     let mut listed = listed_len(table, rows);
     let mut pos: usize = 0;

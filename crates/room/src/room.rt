@@ -8,6 +8,8 @@ ghost use Rattle.rules.specs.Refusals.{isAlone};
 ghost use Rattle.layout.specs.Picture.{cacheIn, restIn};
 ghost use Rattle.table.specs.Asked.{GoodRows};
 ghost use Rattle.room.specs.Did.{Did, Fits};
+ghost use Rattle.room.specs.Held.{HeldIs};
+use crate::held::Held;
 use crate::pass::evict_until;
 use crate::share::write_dirty;
 use entries::is_alone;
@@ -29,11 +31,12 @@ fn room_in(
     size: u64,
     row: bool,
     before: usize,
+    known: Held,
 ) -> Done
-    requires { ⌜ GoodRows (now table) rows × (alone ≡ isAlone (cacheIn (now table) .mode)) × (size ≤ mostSize) × Fits (cacheIn (now table)) before (now orders) ⌝ }
+    requires { ⌜ GoodRows (now table) rows × (alone ≡ isAlone (cacheIn (now table) .mode)) × (size ≤ mostSize) × Fits (cacheIn (now table)) before (now orders) × HeldIs known (cacheIn (now table)) ⌝ }
     ensures { λ r. ⌜ Did (roomIn (cacheIn (now (table .entry)) .mode) size row (start (cacheIn (now (table .entry))))) (restIn (now (table .entry))) (now (table .exit)) before (now (orders .entry)) (now (orders .exit)) (r .given) ⌝ }
 {
-    let first = evict_until(table, orders, rows, alone, size, row, before);
+    let first = evict_until(table, orders, rows, alone, size, row, before, known);
     if !alone {
         return Done { given: first.given };
     }
@@ -49,8 +52,9 @@ pub fn make_room(
     size: u64,
     row: bool,
     before: usize,
+    known: Held,
 ) -> Done
-    requires { ⌜ GoodRows (now table) rows × (size ≤ mostSize) × Fits (cacheIn (now table)) before (now orders) ⌝ }
+    requires { ⌜ GoodRows (now table) rows × (size ≤ mostSize) × Fits (cacheIn (now table)) before (now orders) × HeldIs known (cacheIn (now table)) ⌝ }
     ensures { λ r. ⌜ Did (makeRoom size row (start (cacheIn (now (table .entry))))) (restIn (now (table .entry))) (now (table .exit)) before (now (orders .entry)) (now (orders .exit)) (r .given) ⌝ }
 {
     let s = settings(table);
@@ -58,5 +62,5 @@ pub fn make_room(
         return Done { given: before };
     }
     let alone = is_alone(mode(table));
-    room_in(table, orders, rows, alone, size, row, before)
+    room_in(table, orders, rows, alone, size, row, before, known)
 }

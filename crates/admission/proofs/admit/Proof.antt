@@ -12,7 +12,7 @@ make-room-requires : tie.Need-make-room-requires
 make-room-requires c κs =
     let s = c .before .before .before .before .before .before .before .before in
     let d = cacheIn (s .args .table .now) in
-    (flash-good (s .args .size) d (c .before .before .before .before .flash .ensures) (s .pre .0 .size), s .pre .1, flash-fits (s .args .size) d (c .before .before .before .before .flash .ensures) (s .args .orders .now) (s .pre .2))
+    (flash-good (s .args .size) d (c .before .before .before .before .flash .ensures) (s .pre .0 .size), s .pre .1, flash-fits (s .args .size) d (c .before .before .before .before .flash .ensures) (s .args .orders .now) (s .pre .2), tt)
 
 same-length : tie.Need-same-length
 same-length c = search needs

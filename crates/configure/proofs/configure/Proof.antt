@@ -23,7 +23,7 @@ make-room-requires : tie.Need-make-room-requires
 make-room-requires c κs =
     let s = c .before .before .before .before .before .before .before .before .before .before in
     let k = c .before .before .before .before .set-all .ensures in
-    (good-rows k (c .before .before .before .before .before .before .row-count .ensures), omega arith, configured-fits (s .args .s) (cacheIn (s .args .table .now)) (s .args .orders .now) (configurable (cacheIn (s .args .table .now)) (length (s .args .orders .now)) (s .args .s) (s .pre .accepted) .0) k)
+    (good-rows k (c .before .before .before .before .before .before .row-count .ensures), omega arith, configured-fits (s .args .s) (cacheIn (s .args .table .now)) (s .args .orders .now) (configurable (cacheIn (s .args .table .now)) (length (s .args .orders .now)) (s .args .s) (s .pre .accepted) .0) k, tt)
 
 same-length : tie.Need-same-length
 same-length c = search needs

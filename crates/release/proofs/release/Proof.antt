@@ -4,7 +4,7 @@ use lib.ListN.{length}
 use Rattle.rules.specs.Entries.{released}
 use Rattle.rules.specs.Requests.{effect}
 use Rattle.layout.specs.Picture.{cacheIn}
-use Rattle.release.proofs.Released.{unchanged, touch-asked, room-asked, room-told}
+use Rattle.release.proofs.Released.{unchanged, touch-asked, room-asked, held-stays, room-told}
 use Rattle.refusals.proofs.Unrefused.{releasable}
 use borrow.Author.Needs.{needs}
 use Rattle.release.proofs.release.Statement.{statement}
@@ -32,7 +32,10 @@ room-unless-held-requires : tie.Need-room-unless-held-requires
 room-unless-held-requires c κs =
     let s = c .before .before .before .before .before .before .before .before .before .before .before .before .before .before in
     let e = c .before .before .before .before .before .before .before .before .entry-of in
-    room-asked released (unchanged (e .result)) (c .before .before .before .before .before .before .released .ensures) (cacheIn (s .args .table .now)) refl (s .pre .0 .good) (c .before .before .before .before .before .before .before .before .before .before .row-count .ensures) (c .before .before .before .before .before .before .before .before .before .before .before .before .before .before .pre .1) (e .ensures) (c .before .before .before .before .before .touch-entry .ensures) (s .args .orders .now) (releasable (cacheIn (s .args .table .now)) (length (s .args .orders .now)) (s .args .address) (s .pre .0 .accepted) .0)
+    let b = cacheIn (s .args .table .now) in
+    let u = unchanged (e .result) in
+    let r = room-asked released u (c .before .before .before .before .before .before .released .ensures) b refl (s .pre .0 .good) (c .before .before .before .before .before .before .before .before .before .before .row-count .ensures) (s .pre .1) (e .ensures) (c .before .before .before .before .before .touch-entry .ensures) (s .args .orders .now) (releasable b (length (s .args .orders .now)) (s .args .address) (s .pre .0 .accepted) .0) in
+    (r .0, r .1, held-stays released u (c .before .before .before .before .before .before .released .ensures) b refl (s .pre .0 .good) (c .before .before .before .before .before .before .before .before .before .before .row-count .ensures) (s .pre .1) (e .ensures) (c .before .before .before .before .before .touch-entry .ensures) (λ y. refl) (s .args .known) (s .pre .2))
 
 same-length : tie.Need-same-length
 same-length c = search needs

@@ -49,7 +49,8 @@ room-unless-held-requires c κs =
     let b = (cacheIn (s .args .table .now)) in
     let f = changeable b (length (s .args .orders .now)) (s .args .address) (s .args .size) (s .pre .0 .accepted) in
     let h = named-here b (s .args .address) (s .args .size) (e .result) (e .ensures) (c .before .before .before .before .before .before .before .before .before .before .before .name-size .ensures) in
-    room-asked (changedReleased (s .args .size)) (changed (s .args .size) (e .result) (f .size)) (c .before .before .before .before .before .before .released .ensures ∙ ap released (c .before .before .before .before .before .before .before .changed-to .ensures)) b (named-books (s .args .address) (s .args .size) b .rows) h (c .before .before .before .before .before .before .before .before .before .before .before .before .before .before .before .row-count .ensures) (c .before .before .before .before .before .before .before .before .before .before .before .before .before .before .before .before .before .before .before .pre .1) (e .ensures) (c .before .before .before .before .before .touch-entry .ensures) (s .args .orders .now) (f .words)
+    let r = room-asked (changedReleased (s .args .size)) (changed (s .args .size) (e .result) (f .size)) (c .before .before .before .before .before .before .released .ensures ∙ ap released (c .before .before .before .before .before .before .before .changed-to .ensures)) b (named-books (s .args .address) (s .args .size) b .rows) h (c .before .before .before .before .before .before .before .before .before .before .before .before .before .before .before .row-count .ensures) (c .before .before .before .before .before .before .before .before .before .before .before .before .before .before .before .before .before .before .before .pre .1) (e .ensures) (c .before .before .before .before .before .touch-entry .ensures) (s .args .orders .now) (f .words) in
+    (r .0, r .1, tt)
 
 same-length : tie.Need-same-length
 same-length c = search needs

@@ -16,7 +16,7 @@ returns c =
     step-damaged (s .args .table .now) (s .args .orders .now) (s .args .list .now) (s .args .request) (fails-told (c .before .judge .ensures) (c .if1 .taken))
 
 step-judged-requires : tie.Need-step-judged-requires
-step-judged-requires c κs = passes-told (c .before .before .before .judge .ensures) (c .before .before .if1 .left)
+step-judged-requires c κs = (passes-told (c .before .before .before .judge .ensures) (c .before .before .if1 .left), tt)
 
 same-length-2 : tie.Need-same-length-2
 same-length-2 c = search needs

@@ -35,7 +35,7 @@ release-requires : tie.Need-release-requires
 unfolding refusalOf tests
 release-requires c κs =
     let u = named _ [] (c .before .before .before .before .before .before .before .before .before .pre .0) (c .before .before .before .request3 .given .1) refl in
-    (u, release-row (c .before .before .before .before .before .row-in .ensures) u (c .before .before .before .before .before .before .before .before .before .pre .2 ∙ ap (foundFor (cacheIn (c .before .before .before .before .before .before .before .before .before .args .table .now) .rows)) (c .before .before .before .request3 .given .1)))
+    (u, release-row (c .before .before .before .before .before .row-in .ensures) u (c .before .before .before .before .before .before .before .before .before .pre .2 ∙ ap (foundFor (cacheIn (c .before .before .before .before .before .before .before .before .before .args .table .now) .rows)) (c .before .before .before .request3 .given .1)), c .before .before .before .before .before .before .before .before .before .pre .3)
 
 enum-known-request-4 : tie.Need-enum-known-request-4
 enum-known-request-4 c = search needs

@@ -40,7 +40,7 @@ make-room-requires c κs =
     let d = rate-is (cacheIn (s .args .table .now)) (r .result) (h .result) (a .result) (h .ensures) (a .ensures) (r .ensures) (c .before .before .before .before .before .before .before .before .before .before .before .before .before .before .resize-maximum .ensures) in
     let k = c .before .before .before .before .before .before .before .before .age-all .ensures in
     let m = c .before .before .before .before .restart .ensures in
-    (aged-good (s .pre .0) d k m, omega arith, aged-fits (s .pre .0) d k m (s .pre .1) (omega (arith, c .before .before .before .before .before .before .before .before .before .before .before .before .before .before .resize-maximum .kept .1)))
+    (aged-good (s .pre .0) d k m, omega arith, aged-fits (s .pre .0) d k m (s .pre .1) (omega (arith, c .before .before .before .before .before .before .before .before .before .before .before .before .before .before .resize-maximum .kept .1)), tt)
 
 same-length : tie.Need-same-length
 same-length c = search needs

@@ -50,8 +50,8 @@ turn-left c = turns-one (top (c .before .before) .loop .inv .0) (c .if4 .taken) 
 maximum-requires : tie.Need-maximum-requires Inv-loop μ-loop
 maximum-requires c κs = search needs
 
-held-bytes-requires : tie.Need-held-bytes-requires Inv-loop μ-loop
-held-bytes-requires c κs = search needs
+held-now-requires : tie.Need-held-now-requires Inv-loop μ-loop
+held-now-requires c κs = search needs
 
 has-free-requires : tie.Need-has-free-requires Inv-loop μ-loop
 has-free-requires c κs = search needs
@@ -63,7 +63,7 @@ loop-holds : tie.Need-loop-holds Inv-loop μ-loop
 loop-holds c =
     let s = c .before .before .before .before .before .before .before .before .before .before in (
       making-start (s .args .alone) (s .args .size) (s .args .row) (s .pre .0) (s .pre .2)
-          (record { maximum-is = c .before .before .before .before .before .before .maximum .ensures; held-is = c .before .before .before .before .held-bytes .ensures; free-is = c .before .before .has-free .ensures; listed-is = c .listed-len .ensures }),
+          (record { maximum-is = c .before .before .before .before .before .before .maximum .ensures; held-is = c .before .before .before .before .held-now .ensures; free-is = c .before .before .has-free .ensures; listed-is = c .listed-len .ensures }),
       refl,
       refl,
     )
@@ -172,7 +172,7 @@ evict-until-spec =
     Inv-loop
     μ-loop
     maximum-requires
-    held-bytes-requires
+    held-now-requires
     has-free-requires
     listed-len-requires
     loop-holds

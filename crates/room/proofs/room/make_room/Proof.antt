@@ -29,7 +29,7 @@ is-alone-requires c κs = search needs
 room-in-requires : tie.Need-room-in-requires
 room-in-requires c κs =
     let s = c .before .before .before .before .before .before .before .before .before .before .before in
-    (s .pre .0, c .before .before .is-alone .ensures ∙ ap isAlone (c .before .before .before .mode .ensures), s .pre .1, s .pre .2)
+    (s .pre .0, c .before .before .is-alone .ensures ∙ ap isAlone (c .before .before .before .mode .ensures), s .pre .1, s .pre .2, s .pre .3)
 
 same-length-2 : tie.Need-same-length-2
 same-length-2 c = search needs
