@@ -2,29 +2,20 @@
 -- (1 + f / 2 ^ 52) * 2 ^ (e - 1023): below 1 where e is below 1023, and 2 ^ 64 or more from e = 1087 on. Assumes nothing.
 use mathlib.Core.Path.{_≡_, refl, sym, ap, _∙_, subst}
 use mathlib.Core.Logic.{_⊎_, inl, inr}
-use mathlib.Core.Bool.{Bool, true, false, cond}
+use mathlib.Core.Bool.{Bool, true, false, not, cond, _&&_}
 use Prim.Native.Nat.{ℕ, zero, suc, _+_, _-_, _*_, _/_, _%_, _^_, _≤_, _<_, min}
-use native.Mathlib.Nat.{mul-assoc, mod-lt, mod-le, mod-eq-of-lt, div-eq-of-lt, le-div-iff-mul-le, lt-of-lt-of-le, le-trans, le-of-eq, le-add-right, mul-le-mul-right}
+use native.Mathlib.Nat.{mul-assoc, mod-lt, div-eq-of-lt, le-div-iff-mul-le, lt-of-lt-of-le, le-trans, le-of-eq, le-add-right, mul-le-mul-right}
 use native.Mathlib.Omega.{arith}
-use lib.Dec.{T, leb, ltb, eqb, lit≤}
+use lib.Dec.{T, ltb, eqb, lit≤}
 use lib.Pow.{pow-add, pow-pos, pow-mono, shl-lt, shr-lt}
-use lib.Ieee.{Float, nan, inf, fin, binary64, up, down, odd, fits, isNan, ofFields, ofBits, toBits, toUnsigned}
+use lib.Ieee.{Float, nan, inf, fin, binary64, up, down, odd, fits, nanBits, ofFields, ofBits, toBits, toUnsigned}
 use lib.Ieee.Fits.{down-pos}
-use lib.Ieee.Bits.{ofBits-toBits, nanBits-is}
+use lib.Ieee.Bits.{ofBits-toBits, nanBits-above}
 use lib.Ieee.Exact.{HasValue, odd-sign}
 use lib.Ieee.Nearest.{div-same}
-use borrow.Author.Tests.{lt-ltb, le-ltb, ltb-true, ltb-false, le-leb, lt-leb, eqb-true}
-use Rattle.fraction.specs.Whole.{wholePart}
+use borrow.Author.Tests.{lt-ltb, le-ltb, ltb-true, ltb-false, eqb-true}
+use Rattle.fraction.specs.Whole.{wholePart, sign, exponent, fraction, noNumber, wholeByExponent, wholeByFields, wholeOfWord}
 use Rattle.fraction.proofs.NoNumber.{number, no-number}
-
--- by the fields of a number that is not negative
-unfoldable pub wholeOfFields : ℕ → ℕ → ℕ
-wholeOfFields e f = cond (ltb e 1023) 0 (cond (ltb e 1087) ((2 ^ 52 + f) * 2 ^ (e - 1023) / 2 ^ 52) (2 ^ 64 - 1))
-
--- by the word: above that of infinity stand the negative numbers and what is no number
-unfoldable pub wholeOfWord : ℕ → ℕ
-unfolding wholeOfFields
-wholeOfWord w = cond (ltb (2047 * 2 ^ 52) w) 0 (wholeOfFields (w / 2 ^ 52) (w % 2 ^ 52))
 
 -- which of two numbers is less
 which : (a b : ℕ) → (a < b) ⊎ (b ≤ a)
@@ -79,19 +70,19 @@ module _ (j f : ℕ) (h : f < 2 ^ 52) where
   capped : (n : ℕ) → 2 ^ 64 ≤ n → min n (2 ^ 64 - 1) ≡ 2 ^ 64 - 1
   capped n l = omega arith
 
-  of-exponent : min (digits * 2 ^ j / 2 ^ 1074) (2 ^ 64 - 1) ≡ wholeOfFields (suc j) f
-  unfolding wholeOfFields digits
-  of-exponent = elim (which (suc j) 1023) [
+  of-exponent : noNumber (suc j) f ≡ false → min (digits * 2 ^ j / 2 ^ 1074) (2 ^ 64 - 1) ≡ wholeByExponent (suc j) f
+  unfolding wholeByExponent digits
+  of-exponent some = elim (which (suc j) 1023) [
     | inl k ↦ rw (below-one k, lt-ltb (suc j) 1023 k) (omega arith)
     | inr k ↦ elim (which (suc j) 1087) [
       | inl l ↦ rw (le-ltb (suc j) 1023 k, lt-ltb (suc j) 1087 l, shifted digits j 1074 (suc j - 1023) 52 (omega arith)) (omega (arith, in-a-word k l))
-      | inr l ↦ rw (le-ltb (suc j) 1023 k, le-ltb (suc j) 1087 l) (capped (digits * 2 ^ j / 2 ^ 1074) (too-large l))
+      | inr l ↦ rw (le-ltb (suc j) 1023 k, le-ltb (suc j) 1087 l, some) (capped (digits * 2 ^ j / 2 ^ 1074) (too-large l))
     ]
   ]
 
 -- a number by its sign and fields
-of-fields : (s : Bool) (e f : ℕ) → f < 2 ^ 52 → isNan (ofFields binary64 s e f) ≡ false → wholePart (ofFields binary64 s e f) ≡ cond s 0 (wholeOfFields e f)
-unfolding ofFields wholeOfFields toUnsigned isNan digits
+of-fields : (s : Bool) (e f : ℕ) → f < 2 ^ 52 → noNumber e f ≡ false → wholePart (ofFields binary64 s e f) ≡ wholeByFields s e f
+unfolding ofFields wholeByFields wholeByExponent toUnsigned digits
 of-fields s zero f h n =
     of-value (odd 53 s f 0 1074) s (f * 2 ^ 0) (2 ^ 1074) (pow-pos 1074) (odd-sign 53 s f 0 1074) ∙ ap (λ (k : ℕ). cond s 0 k) tiny
   where
@@ -99,32 +90,41 @@ of-fields s zero f h n =
     tiny =
         let g : 52 + 0 ≤ 1074 = lit≤ tt in
         rw (div-eq-of-lt (lt-of-lt-of-le (shl-lt 52 0 h) (pow-mono g))) (omega arith)
-of-fields s (suc j) f h n = go (eqb (suc j) 2047) refl n
+of-fields s (suc j) f h n = go (eqb (suc j) 2047) refl
   where
     v : Float
     v = odd 53 s (2 ^ 52 + f) j 1074
 
-    infinite : (b : Bool) → suc j ≡ 2047 → isNan (cond b (inf s) nan) ≡ false → wholePart (cond b (inf s) nan) ≡ cond s 0 (wholeOfFields (suc j) f)
-    infinite true k n = rw k
-    infinite false k n = absurd (subst T n tt)
+    infinite : (b : Bool) → eqb f 0 ≡ b → suc j ≡ 2047 → wholePart (cond b (inf s) nan) ≡ wholeByFields s (suc j) f
+    infinite true z k = rw (k, z)
+    infinite false z k = absurd (subst T (rw (k, z) at n) tt)
 
-    go : (b : Bool) → eqb (suc j) 2047 ≡ b → isNan (cond b (cond (eqb f 0) (inf s) nan) v) ≡ false → wholePart (cond b (cond (eqb f 0) (inf s) nan) v) ≡ cond s 0 (wholeOfFields (suc j) f)
-    go true k n = infinite (eqb f 0) (eqb-true (suc j) 2047 k) n
-    go false k n = of-value v s ((2 ^ 52 + f) * 2 ^ j) (2 ^ 1074) (pow-pos 1074) (odd-sign 53 s (2 ^ 52 + f) j 1074) ∙ ap (λ (k : ℕ). cond s 0 k) (of-exponent j f h)
+    go : (b : Bool) → eqb (suc j) 2047 ≡ b → wholePart (cond b (cond (eqb f 0) (inf s) nan) v) ≡ wholeByFields s (suc j) f
+    go true k = infinite (eqb f 0) refl (eqb-true (suc j) 2047 k)
+    go false k = of-value v s ((2 ^ 52 + f) * 2 ^ j) (2 ^ 1074) (pow-pos 1074) (odd-sign 53 s (2 ^ 52 + f) j 1074) ∙ ap (λ (k : ℕ). cond s 0 k) (of-exponent j f h n)
+
+-- what is no number
+none-by-fields : (s : Bool) (e f : ℕ) → noNumber e f ≡ true → wholeByFields s e f ≡ 0
+unfolding wholeByFields wholeByExponent
+none-by-fields s e f n =
+    let k = eqb-true e 2047 (first (eqb e 2047) (not (eqb f 0)) n) in
+    rw (le-ltb e 1023 (omega arith), le-ltb e 1087 (omega arith), n) (either s)
+  where
+    first : (a b : Bool) → (a && b) ≡ true → a ≡ true
+    first true b h = refl
+    first false b h = h
+
+    either : (s : Bool) → cond {A = ℕ} s 0 0 ≡ 0
+    either true = refl
+    either false = refl
 
 -- the float of any word
 pub of-word : (w : ℕ) → wholePart (ofBits binary64 w) ≡ wholeOfWord w
-unfolding wholeOfWord ofBits toUnsigned
+unfolding ofBits toUnsigned nanBits
 of-word w = elim (which (2047 * 2 ^ 52) (w % 2 ^ 63)) [
-  | inl n ↦ rw (no-number w n, lt-ltb (2047 * 2 ^ 52) w (lt-of-lt-of-le n (mod-le w (2 ^ 63))))
-  | inr n ↦ by-sign n (which w (2 ^ 63))
+  | inl n ↦ rw (no-number w n) (sym (none-by-fields (sign w) (exponent w) (fraction w) (nanBits-above binary64 w ∙ lt-ltb (2047 * 2 ^ 52) (w % 2 ^ 63) n)))
+  | inr n ↦ of-fields (sign w) (exponent w) (fraction w) (mod-lt w (pow-pos 52)) (number w n)
 ]
-  where
-    by-sign : w % 2 ^ 63 ≤ 2047 * 2 ^ 52 → (w < 2 ^ 63) ⊎ (2 ^ 63 ≤ w) → wholePart (ofBits binary64 w) ≡ wholeOfWord w
-    by-sign n k = of-fields (leb (2 ^ 63) w) (w % 2 ^ 63 / 2 ^ 52) (w % 2 ^ 52) (mod-lt w (pow-pos 52)) (sym (nanBits-is binary64 w) ∙ number w n) ∙ elim k [
-      | inl l ↦ rw (lt-leb (2 ^ 63) w l, mod-eq-of-lt l, le-ltb (2047 * 2 ^ 52) w (rw (mod-eq-of-lt l) at n))
-      | inr l ↦ rw (le-leb (2 ^ 63) w l, lt-ltb (2047 * 2 ^ 52) w (omega arith))
-    ]
 
 -- every float of a program, by its word
 pub by-word : (x : Float) → T (fits binary64 x) → wholePart x ≡ wholeOfWord (toBits binary64 x)

@@ -1,12 +1,12 @@
--- Worked cases, shown by computation: one table, and one statement that each case of it holds. Assumes nothing.
-use Prim.Native.Nat.{ℕ, _-_, _^_}
+-- Worked cases, shown by computation: tables, and a statement for each that its cases hold. Assumes nothing.
+use Prim.Native.Nat.{ℕ, _+_, _-_, _*_, _^_}
 use mathlib.Core.Path.{_≡_, refl}
-use mathlib.Core.Bool.{Bool, true, false, Bool·beq, _&&_}
+use mathlib.Core.Bool.{Bool, true, false, Bool·beq, cond, _&&_}
 use mathlib.Core.List.{List, [], _∷_}
 use lib.Dec.{eqb}
 use lib.IntN.{pos}
 use lib.Ieee.{Float, nan, inf, fin, binary64, mul, div, sub, lt, round, ofInt, ofBits, toUnsigned}
-use Rattle.fraction.specs.Whole.{wholePart}
+use Rattle.fraction.specs.Whole.{wholePart, sign, exponent, fraction, wholeByExponent, wholeByFields}
 use Rattle.fraction.specs.Fraction.{decimal, sizeProduct, hitRate, reserveQuotient, exceedsShare}
 
 -- What is worked out, and last what it gives.
@@ -67,3 +67,56 @@ cases =
 pub cases-hold : every holds cases ≡ true
 unfolding cases every holds mul div sub lt round ofInt ofBits toUnsigned
 cases-hold = refl
+
+-- ---- by sign, exponent and fraction
+
+-- The three fields in their places.
+abbrev wordOf : Bool → ℕ → ℕ → ℕ
+wordOf s e f = cond s (2 ^ 63) 0 + e * 2 ^ 52 + f
+
+-- Sign, exponent, fraction, and the whole part of the float that has them.
+pub data Fields : Type 0 where
+  of : Bool → ℕ → ℕ → ℕ → Fields
+
+-- The word has these fields, and the whole part is the one named, by the fields and by the value.
+unfoldable pub shown : Fields → Bool
+unfolding wholeByFields
+shown (of s e f n) =
+    let w = wordOf s e f in
+    Bool·beq (sign w) s && eqb (exponent w) e && eqb (fraction w) f && eqb (wholeByFields s e f) n && eqb (wholePart (ofBits binary64 w)) n
+
+pub byFields : List Fields
+byFields =
+    -- 0.0, the smallest number above it, the largest below 1
+    of false 0 0 0
+    ∷ of false 0 1 0
+    ∷ of false 1022 (2 ^ 52 - 1) 0
+    -- 1.0, the largest below 2, 6.5, 4505.6
+    ∷ of false 1023 0 1
+    ∷ of false 1023 (2 ^ 52 - 1) 1
+    ∷ of false 1025 0xa_0000_0000_0000 6
+    ∷ of false 1035 0x1_9999_9999_999a 4505
+    -- 2 ^ 51 + 0.5, 2 ^ 52 + 1, 2 ^ 53
+    ∷ of false 1074 1 (2 ^ 51)
+    ∷ of false 1075 1 (2 ^ 52 + 1)
+    ∷ of false 1076 0 (2 ^ 53)
+    -- 2 ^ 63, the largest below 2 ^ 64, 2 ^ 64, the largest of all, infinity
+    ∷ of false 1086 0 (2 ^ 63)
+    ∷ of false 1086 (2 ^ 52 - 1) (2 ^ 64 - 2048)
+    ∷ of false 1087 0 (2 ^ 64 - 1)
+    ∷ of false 2046 (2 ^ 52 - 1) (2 ^ 64 - 1)
+    ∷ of false 2047 0 (2 ^ 64 - 1)
+    -- -0.0, -1.5, -2 ^ 64, -infinity
+    ∷ of true 0 0 0
+    ∷ of true 1023 (2 ^ 51) 0
+    ∷ of true 1087 0 0
+    ∷ of true 2047 0 0
+    -- no number
+    ∷ of false 2047 (2 ^ 51) 0
+    ∷ of false 2047 1 0
+    ∷ of true 2047 (2 ^ 52 - 1) 0
+    ∷ []
+
+pub fields-hold : every shown byFields ≡ true
+unfolding byFields every shown wholeByExponent wholeByFields ofBits toUnsigned
+fields-hold = refl

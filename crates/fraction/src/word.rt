@@ -10,7 +10,7 @@ pub const INFINITY: u64 = 0x7ff0_0000_0000_0000;
 const NO_NUMBER: u64 = 0x7ff8_0000_0000_0000;
 
 // The sign's bit.
-const SIGN: u64 = 0x8000_0000_0000_0000;
+pub const SIGN: u64 = 0x8000_0000_0000_0000;
 
 // The word of a float. A float of a program is one that the format holds.
 pub fn word_of(x: f64) -> u64

@@ -19,7 +19,7 @@ one = refl
 
 returns : tie.Need-returns
 unfolding reserveQuotient
-returns c = rw (c .whole-part .ensures, c .before .nearest-u64-to-f64 .ensures, one)
+returns c = rw (c .whole-part .ensures .1, c .before .nearest-u64-to-f64 .ensures, one)
 
 pub reserve-quotient-spec : {M : Type 1} → statement M
 reserve-quotient-spec =

@@ -12,7 +12,7 @@ whole-part-requires c κs = search needs
 
 returns : tie.Need-returns
 unfolding sizeProduct
-returns c = rw (c .whole-part .ensures, c .before .nearest-u64-to-f64 .ensures)
+returns c = rw (c .whole-part .ensures .1, c .before .nearest-u64-to-f64 .ensures)
 
 pub size-product-spec : {M : Type 1} → statement M
 size-product-spec = tie.close (tie.spec nearest-u64-to-f64-requires whole-part-requires returns)
