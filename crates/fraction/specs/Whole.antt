@@ -34,7 +34,7 @@ wholeByExponent e f =
     cond (ltb e 1023) 0
     -- from 1 to below 2 ^ 64
     (cond (ltb e 1087) ((2 ^ 52 + f) * 2 ^ (e - 1023) / 2 ^ 52)
-    -- 2 ^ 64 or more
+    -- no number, or 2 ^ 64 and more
     (cond (noNumber e f) 0 (2 ^ 64 - 1)))
 
 -- What is negative gives 0.
