@@ -52,33 +52,33 @@ incoming-range s c k r = room-figures InRange s true (start (flashed s c)) (flas
 released-range : (a : ℕ) (c : Cache) → Sound c → InRange (figuresOf c) → InRange (figuresOf (roomIfReleased a c .cache))
 released-range a c k r = subst InRange (sym (moves-figures (released-moves a c k))) r
 
-figures : (c : Cache) (lent : ℕ) (list : List ℕ) (r : Request) → Sound c → firstOf (tests c lent list r) ≡ none → InRange (figuresOf c)
-    → InRange (figuresOf (effect c list r .cache))
+figures : (c : Cache) (lent : ℕ) (message : List ℕ) (r : Request) → Sound c → firstOf (tests c lent message r) ≡ none → InRange (figuresOf c)
+    → InRange (figuresOf (effect c message r .cache))
 unfolding tests effect
-figures c lent list (Insert a s) k h r =
+figures c lent message (Insert a s) k h r =
     let i = incoming-range s c k r in
     recounted (adds false s (makeRoom s true (start (flashed s c)) .cache .count)) (adds-most false s _ (i .ranged .count)) i
-figures c lent list (Protect x a s) k h r =
-    let f = failed (tests c lent list (Protect x a s)) h in
+figures c lent message (Protect x a s) k h r =
+    let f = failed (tests c lent message (Protect x a s)) h in
     choose (λ (w : Work). InRange (figuresOf (w .cache))) (isHere (c .rows) a)
     (λ p. count-range true (start (touch a (protectedFor x) c)) (sound-touch a (protectedFor x) (λ e. refl) c k) r)
     (λ p. let m = ready a s c k p (simp p at (f .1 .1 .1 .1 .0)) in
     let w = makeRoom s true (start (flashed s c)) in
     count-range false (loaded x a s w) (sound-load x a s (w .cache) (m .free) (m .absent) (m .sound)) (incoming-range s c k r))
-figures c lent list (Release a) k h r = released-range a (touch a released c) (sound-touch a released (λ e. refl) c k) r
-figures c lent list (ReleaseChanged a s) k h r =
+figures c lent message (Release a) k h r = released-range a (touch a released c) (sound-touch a released (λ e. refl) c k) r
+figures c lent message (ReleaseChanged a s) k h r =
     released-range a (touch a (λ e. released (changedTo s e)) (named a s c))
     (sound-touch a (λ e. released (changedTo s e)) (λ e. refl) (named a s c) (named-sound a s c k)) (named-range a s c r)
-figures c lent list (Pin a) k h r = r
-figures c lent list (Unpin a) k h r = r
-figures c lent list (Resize a s) k h r = named-range a s c r
-figures c lent list (Discard a) k h r = r
-figures c lent list Flush k h r = recounted 0 (omega arith) r
-figures c lent list Sync k h r =
+figures c lent message (Pin a) k h r = r
+figures c lent message (Unpin a) k h r = r
+figures c lent message (Resize a s) k h r = named-range a s c r
+figures c lent message (Discard a) k h r = r
+figures c lent message Flush k h r = recounted 0 (omega arith) r
+figures c lent message Sync k h r =
     recounted 0 (omega arith) (subst InRange (sym (moves-figures (dirty-moves 0 (c .recency) (start c) (sound-listed (start c) k)))) r)
-figures c lent list Take k h r = recounted _ (omega arith) r
-figures c lent list (Configure s) k h r =
-    let f = failed (tests c lent list (Configure s)) h in
+figures c lent message Take k h r = recounted _ (omega arith) r
+figures c lent message (Configure s) k h r =
+    let f = failed (tests c lent message (Configure s)) h in
     room-figures InRange 0 false (start (configured s c)) (sound-same c (configured s c) refl refl k)
     (configured-range s c (eqb-true (firstBad s false) 0 (not-false _ (f .1 .0))) (r .ranged .count))
 
@@ -94,8 +94,8 @@ pub step-allowed : (c : Cache) (call : Call) → Allowed c → Allowed (step c c
 unfolding refusalOf
 step-allowed c call k =
     stepped c call (λ o. Allowed (o .cache))
-    (λ e. let d = effects c (call .lent) (call .list) (call .request) (k .sound) e in
-    let f = figures c (call .lent) (call .list) (call .request) (k .sound) e (figures-allowed c k) in
+    (λ e. let d = effects c (call .lent) (call .message) (call .request) (k .sound) e in
+    let f = figures c (call .lent) (call .message) (call .request) (k .sound) e (figures-allowed c k) in
     let n = d .kept .rows in let m = d .kept .threshold in
     record {
       someRows = let i = k .someRows in omega arith;

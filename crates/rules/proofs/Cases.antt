@@ -8,6 +8,7 @@ use Rattle.fraction.specs.Fraction.{sizeProduct, hitRate, reserveQuotient, exce
 use Rattle.settings.specs.Validation.{firstBad}
 use Rattle.rules.specs.Addresses.{elem, strike, someAddress, nearest, twice, insertRising}
 use Rattle.rules.specs.Cases.{cases, further, ran, run, after, reversed, cacheOf, isValid}
+use Rattle.rules.specs.Messages.{bytesOf, addressFields, messageOf, feed, feedAll, readMessage}
 use Rattle.rules.specs.Opening.{refusalOfOpening}
 use Rattle.rules.specs.Refusals.{firstOf, tests, refusalOf}
 use Rattle.rules.specs.Reports.{reportOf, totalsFrom}
@@ -18,7 +19,7 @@ use Rattle.rules.specs.Rows.{get, amend, amendEach, amendAll, remove, pl
 
 -- to unfold this is to unfold all the rules
 unfoldable pub computing : Unit {0}
-unfolding elem strike someAddress nearest twice insertRising firstOf tests refusalOf refusalOfOpening reportOf totalsFrom effect step flashed evictAged ageOut resized endEpoch countAccess cleanBytes turns writeDirty roomIn makeRoom get amend amendEach amendAll remove place hasFree someEntry total dirtyRising mul div sub lt le eq round ofInt toUnsigned sizeProduct hitRate reserveQuotient exceedsShare firstBad
+unfolding bytesOf addressFields messageOf feed feedAll readMessage elem strike someAddress nearest twice insertRising firstOf tests refusalOf refusalOfOpening reportOf totalsFrom effect step flashed evictAged ageOut resized endEpoch countAccess cleanBytes turns writeDirty roomIn makeRoom get amend amendEach amendAll remove place hasFree someEntry total dirtyRising mul div sub lt le eq round ofInt toUnsigned sizeProduct hitRate reserveQuotient exceedsShare firstBad
 computing = tt
 
 pub worked : map ran cases ≡ map (λ x. x .gives) cases

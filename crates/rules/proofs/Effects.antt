@@ -20,11 +20,12 @@ use Rattle.rules.specs.declared.request.Request.{Request}
 use Rattle.rules.specs.declared.request.Request.the-variants.{Insert, Protect, Release, ReleaseChanged, Pin, Unpin, Resize, Discard, Flush, Sync, Take, Configure}
 use Rattle.rules.specs.Addresses.{insertRising}
 use Rattle.rules.specs.Allowed.{Sound, HoldAllowed, EntryAllowed}
-use Rattle.rules.specs.Cache.{Cache, Work, start, held, touch, amendAt, withRows, withMaximum, withCounters, withCount}
+use Rattle.rules.specs.Cache.{Cache, Work, start, held, touch, amendAt, withRows, withMaximum, withCounters, withCount, withNext}
 use Rattle.rules.specs.Entries.{isHeld, isListed, forbids, joined, lessOne, withPin, cleaned, changedTo, protectedFor, released, newEntry}
 use Rattle.rules.specs.History.{evictedBytes, broughtIn, newSize, oldSize, thrownAway}
 use Rattle.rules.specs.Kept.{Kept}
 use Rattle.rules.specs.Limits.{mostSize}
+use Rattle.rules.specs.Messages.{readMessage, addressesIn}
 use Rattle.rules.specs.Refusals.{isAlone, tests, firstOf, badAddress, badSize, noRow}
 use Rattle.rules.specs.Requests.{effect, loaded, hit, missed, roomIfReleased, named, adds, writesOf, configured}
 use Rattle.rules.specs.Resizing.{flashed, flashedTo}
@@ -112,6 +113,15 @@ module _ {c : Cache} {came went : ℕ} where
     recounted n = record {
       kept = record { threshold = d .kept .threshold; rows = d .kept .rows };
       sound = sound-same (w .cache) (withCount n (w .cache)) refl refl (d .sound);
+      entries = d .entries;
+      held = d .held;
+      orders = d .orders;
+    }
+
+    renumbered : (n : ℕ) → Doing c came went extra (record { cache = withNext n (w .cache); orders = w .orders })
+    renumbered n = record {
+      kept = record { threshold = d .kept .threshold; rows = d .kept .rows };
+      sound = sound-same (w .cache) (withNext n (w .cache)) refl refl (d .sound);
       entries = d .entries;
       held = d .held;
       orders = d .orders;
@@ -227,15 +237,16 @@ pub record SameBooks (c d : Cache) : Type 0 where
   pub rows : d .rows ≡ c .rows
   pub recency : d .recency ≡ c .recency
   pub mode : d .mode ≡ c .mode
+  pub next : d .next ≡ c .next
   pub threshold : d .threshold ≡ c .threshold
 
 same-books : (c : Cache) → SameBooks c c
-same-books c = record { rows = refl; recency = refl; mode = refl; threshold = refl }
+same-books c = record { rows = refl; recency = refl; mode = refl; next = refl; threshold = refl }
 
 pub named-books : (a s : ℕ) (c : Cache) → SameBooks c (named a s c)
 named-books a s c =
     flash-elim (λ (d : Cache). SameBooks c (withCount (adds (dirtyAt (c .rows) a) s (c .count)) d)) (s - sizeAt (c .rows) a) c
-    (λ n h k. record { rows = refl; recency = refl; mode = refl; threshold = refl })
+    (λ n h k. record { rows = refl; recency = refl; mode = refl; next = refl; threshold = refl })
 
 pub named-sound : (a s : ℕ) (c : Cache) → Sound c → Sound (named a s c)
 named-sound a s c k = let b = named-books a s c in sound-same c (named a s c) (b .rows) (b .recency) k
@@ -324,13 +335,13 @@ abbrev pub went : Cache → Request → ℕ
 went c r = thrownAway c r + (oldSize c r - newSize r)
 
 abbrev Effect : Cache → ℕ → List ℕ → Request → Type 0
-Effect c lent list r = Sound c → firstOf (tests c lent list r) ≡ none → Done c (came c r) (went c r) (effect c list r)
+Effect c lent message r = Sound c → firstOf (tests c lent message r) ≡ none → Done c (came c r) (went c r) (effect c message r)
 
 -- a further reader, or the first hold
-protect-done : (x : Access) (a s : ℕ) (c : Cache) (lent : ℕ) (list : List ℕ) → Effect c lent list (Protect x a s)
+protect-done : (x : Access) (a s : ℕ) (c : Cache) (lent : ℕ) (message : List ℕ) → Effect c lent message (Protect x a s)
 unfolding tests effect
-protect-done x a s c lent list k h =
-    let f = failed (tests c lent list (Protect x a s)) h in
+protect-done x a s c lent message k h =
+    let f = failed (tests c lent message (Protect x a s)) h in
     split (isHere (c .rows) a)
     (λ p. rw p (ends (hits (f .1 .1 .1 .0)) (omega arith)))
     (λ p. rw p (ends (misses (f .1 .0) (f .1 .1 .0) (ready a s c k p (simp p at (f .1 .1 .1 .1 .0)))) (omega arith)))
@@ -344,10 +355,10 @@ protect-done x a s c lent list k h =
     misses : badAddress a ≡ false → badSize s ≡ false → Ready a s c → Doing c s 0 1 (missed x a s c)
     misses ok sized r = let d = loads a s c k ok sized r x in goes d (count-moves false (loaded x a s (roomFor s c)) (d .sound))
 
-insert-done : (a s : ℕ) (c : Cache) (lent : ℕ) (list : List ℕ) → Effect c lent list (Insert a s)
+insert-done : (a s : ℕ) (c : Cache) (lent : ℕ) (message : List ℕ) → Effect c lent message (Insert a s)
 unfolding tests effect
-insert-done a s c lent list k h =
-    let f = failed (tests c lent list (Insert a s)) h in
+insert-done a s c lent message k h =
+    let f = failed (tests c lent message (Insert a s)) h in
     let r = ready a s c k (f .1 .1 .1 .0) (f .1 .1 .1 .1 .0) in
     let w = roomFor s c in
     let e = newEntry a s true Unheld in
@@ -363,42 +374,42 @@ insert-done a s c lent list k h =
 releases : {came went : ℕ} (a : ℕ) (c d : Cache) → Doing c came went 0 (start d) → Doing c came went 0 (roomIfReleased a d)
 releases a c d k = goes k (released-moves {sets = false} a d (k .sound))
 
--- entries become clean where they stand, with any byte count
-cleans : (n : ℕ) (c : Cache) (l : List ℕ) → Sound c → Doing c 0 0 0 (start (withCount n (withRows (amendEach l cleaned (c .rows)) (c .recency) c)))
-cleans n c l k =
+-- entries become clean where they stand, with any byte count and next number
+cleans : (n m : ℕ) (c : Cache) (l : List ℕ) → Sound c → Doing c 0 0 0 (start (withNext m (withCount n (withRows (amendEach l cleaned (c .rows)) (c .recency) c))))
+cleans n m c l k =
     starts (record { threshold = refl; rows = length-each l cleaned (c .rows) })
     (let i = sound-clean l c k in record { distinct = i .distinct; listed = i .listed; once = i .once })
     (fit-clean l (c .rows)) (let i = total-each (λ e. e .size) l cleaned (λ e. refl) (c .rows) in omega arith)
 
-pub effects : (c : Cache) (lent : ℕ) (list : List ℕ) (r : Request) → Effect c lent list r
+pub effects : (c : Cache) (lent : ℕ) (message : List ℕ) (r : Request) → Effect c lent message r
 unfolding tests effect evictedBytes
-effects c lent list (Insert a s) k h = insert-done a s c lent list k h
-effects c lent list (Protect x a s) k h = protect-done x a s c lent list k h
-effects c lent list (Release a) k h =
+effects c lent message (Insert a s) k h = insert-done a s c lent message k h
+effects c lent message (Protect x a s) k h = protect-done x a s c lent message k h
+effects c lent message (Release a) k h =
     ends (releases a c _ (touches a released (λ e. refl) k (same-books c) (λ e g. released-allowed e)
     (size-same a released (λ e. refl) k (same-books c) (λ e. refl)))) (omega arith)
-effects c lent list (ReleaseChanged a s) k h =
-    let f = failed (tests c lent list (ReleaseChanged a s)) h in
+effects c lent message (ReleaseChanged a s) k h =
+    let f = failed (tests c lent message (ReleaseChanged a s)) h in
     let g : Entry → Entry = λ e. released (changedTo s e) in
     ends (releases a c _ (touches a g (λ e. refl) k (named-books a s c) (λ e i j. released-allowed (changedTo s e) (changed-allowed s e (f .1 .1 .0) j))
     (size-taken a g (λ e. refl) k (named-books a s c) s (λ e. refl) (not-false _ (f .1 .1 .1 .0))))) (omega arith)
-effects c lent list (Pin a) k h =
-    let f = failed (tests c lent list (Pin a)) h in
+effects c lent message (Pin a) k h =
+    let f = failed (tests c lent message (Pin a)) h in
     ends (amends a (withPin true) (λ e. refl) k (same-books c) (λ e g. pinned-allowed true e)
     (size-same a (withPin true) (λ e. refl) k (same-books c) (λ e. refl)) (pin-stays (get (c .rows) a) (f .1 .1 .0))) (omega arith)
-effects c lent list (Unpin a) k h =
+effects c lent message (Unpin a) k h =
     ends (touches a (withPin false) (λ e. refl) k (same-books c) (λ e g. pinned-allowed false e)
     (size-same a (withPin false) (λ e. refl) k (same-books c) (λ e. refl))) (omega arith)
-effects c lent list (Resize a s) k h =
-    let f = failed (tests c lent list (Resize a s)) h in
+effects c lent message (Resize a s) k h =
+    let f = failed (tests c lent message (Resize a s)) h in
     ends (amends a (changedTo s) (λ e. refl) k (named-books a s c) (λ e g. changed-allowed s e (f .1 .0))
     (size-taken a (changedTo s) (λ e. refl) k (named-books a s c) s (λ e. refl) (not-false _ (f .1 .1 .0))) (changed-stays s (get (c .rows) a))) (omega arith)
-effects c lent list (Discard a) k h =
+effects c lent message (Discard a) k h =
     ends {came = 0} {went = sizeAt (c .rows) a} (starts (record { threshold = refl; rows = length-remove a (c .rows) }) (sound-remove a c k) (fit-remove a (c .rows))
     (let i = total-remove (λ e. e .size) a (c .rows) (k .distinct) in omega arith)) (omega arith)
-effects c lent list Flush k h =
+effects c lent message Flush k h =
     let l = dirtyRising (c .rows) in
-    let d = cleans 0 c l k in
+    let d = cleans 0 _ c l k in
     record {
       kept = d .kept;
       sound = d .sound;
@@ -406,9 +417,9 @@ effects c lent list Flush k h =
       held = let i = d .held in let j = no-evicts (c .rows) l in omega arith;
       orders = let i = length-writes (c .rows) l in let j = length-dirty (c .rows) in omega arith;
     }
-effects c lent list Sync k h =
+effects c lent message Sync k h =
     let d = goes (starts-same k) (dirty-moves {sets = false} 0 (c .recency) (start c) (sound-listed (start c) k)) in
-    ends (recounted d 0) (omega arith)
-effects c lent list Take k h = ends (cleans _ c list k) (omega arith)
-effects c lent list (Configure s) k h =
+    ends (renumbered (recounted d 0) _) (omega arith)
+effects c lent message Take k h = ends (cleans _ _ c (addressesIn (readMessage message)) k) (omega arith)
+effects c lent message (Configure s) k h =
     ends {came = 0} {went = 0} (makes-room (starts (record { threshold = refl; rows = refl }) (sound-same c (configured s c) refl refl k) (λ f. f) refl) 0 false) (omega arith)

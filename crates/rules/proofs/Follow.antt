@@ -120,27 +120,27 @@ module _ (a s : ℕ) (c : Cache) (host : isAlone (c .mode) ≡ false) (gone : ge
 
 -- ---- shared changes and local requests
 
-module _ (c : Cache) (lent : ℕ) (list : List ℕ) (k : Sound c) (host : isAlone (c .mode) ≡ false) where
-  pub shared-follows : {r : Request} (x : Shared r) → firstOf (tests c lent list r) ≡ none → ledgerOf (effect c list r .cache) ≡ hear x (ledgerOf c)
+module _ (c : Cache) (lent : ℕ) (message : List ℕ) (k : Sound c) (host : isAlone (c .mode) ≡ false) where
+  pub shared-follows : {r : Request} (x : Shared r) → firstOf (tests c lent message r) ≡ none → ledgerOf (effect c message r .cache) ≡ hear x (ledgerOf c)
   unfolding tests effect hear
   shared-follows (insert a s) e =
-      let f = failed (tests c lent list (Insert a s)) e in
+      let f = failed (tests c lent message (Insert a s)) e in
       ledger-insert a s c host (absent (get (c .rows) a) (f .1 .1 .1 .0)) (ready a s c k (f .1 .1 .1 .0) (f .1 .1 .1 .1 .0))
   shared-follows (changed a s) e =
-      let f = failed (tests c lent list (ReleaseChanged a s)) e in
+      let f = failed (tests c lent message (ReleaseChanged a s)) e in
       let g : Entry → Entry = λ e. released (changedTo s e) in
       let d = touch a g (named a s c) in
       moves-ledger (ap isAlone (named-books a s c .mode) ∙ host) (released-moves {sets = false} a d (sound-touch a g (λ e. refl) (named a s c) (named-sound a s c k)))
       ∙ ledger-named a g (λ e. refl) s (λ e. refl) (d .recency) c (not-false _ (f .1 .1 .1 .0))
   shared-follows (resize a s) e =
-      let f = failed (tests c lent list (Resize a s)) e in
+      let f = failed (tests c lent message (Resize a s)) e in
       ledger-named a (changedTo s) (λ e. refl) s (λ e. refl) (named a s c .recency) c (not-false _ (f .1 .1 .0))
   shared-follows (discard a) e = same-ledger (λ b. rw (get-remove a b (c .rows)) (sizes-if (eqb a b) none (get (c .rows) b))) refl
 
-  pub local-keeps : {r : Request} → Local r → firstOf (tests c lent list r) ≡ none → ledgerOf (effect c list r .cache) ≡ ledgerOf c
+  pub local-keeps : {r : Request} → Local r → firstOf (tests c lent message r) ≡ none → ledgerOf (effect c message r .cache) ≡ ledgerOf c
   unfolding tests effect
   local-keeps (protect x a s) e =
-      let f = failed (tests c lent list (Protect x a s)) e in
+      let f = failed (tests c lent message (Protect x a s)) e in
       choose (λ (w : Work). ledgerOf (w .cache) ≡ ledgerOf c) (isHere (c .rows) a)
       (λ p. let d = touch a (protectedFor x) c in
       moves-ledger host (count-moves true (start d) (sound-touch a (protectedFor x) (λ e. refl) c k))

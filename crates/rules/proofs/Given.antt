@@ -168,16 +168,16 @@ before-insert a s w h n =
     fun-ext (λ b. rw (get-place (newEntry a s true Unheld) b (w .cache .rows) h n)
     (split (eqb a b) (λ q. simp (q, ← ap (get (w .cache .rows)) (eqb-true a b q), n)) (λ q. simp q)))
 
-module _ (c : Cache) (lent : ℕ) (list : List ℕ) (k : Sound c) where
-  orders-given : (r : Request) → firstOf (tests c lent list r) ≡ none → OrdersGiven (canOrder r) c r (judged none c (effect c list r))
+module _ (c : Cache) (lent : ℕ) (message : List ℕ) (k : Sound c) where
+  orders-given : (r : Request) → firstOf (tests c lent message r) ≡ none → OrdersGiven (canOrder r) c r (judged none c (effect c message r))
   unfolding tests effect
   orders-given (Insert a s) e =
-      let f = failed (tests c lent list (Insert a s)) e in
+      let f = failed (tests c lent message (Insert a s)) e in
       let r = ready a s c k (f .1 .1 .1 .0) (f .1 .1 .1 .1 .0) in
       let w = roomFor s c in
       subst (Given (viewOf c) (w .orders)) (before-insert a s w (r .free) (r .absent)) (started (moves-lead (r .moves)))
   orders-given (Protect x a s) e =
-      let f = failed (tests c lent list (Protect x a s)) e in
+      let f = failed (tests c lent message (Protect x a s)) e in
       split (isHere (c .rows) a)
       (λ p. rw p (started (moves-lead (count-moves true (start (touch a (protectedFor x) c)) (sound-touch a (protectedFor x) (λ e. refl) c k)))))
       (λ p. let r = ready a s c k p (simp p at (f .1 .1 .1 .1 .0)) in
@@ -204,4 +204,4 @@ pub given : (c : Cache) (call : Call) → Sound c → accepted (step c call) ≡
 unfolding refusalOf
 given c call k =
     stepped c call (λ o. accepted o ≡ true → OrdersGiven (canOrder (call .request)) c (call .request) o)
-    (λ e t. orders-given c (call .lent) (call .list) k (call .request) e) (λ r t. absurd (false≢true t))
+    (λ e t. orders-given c (call .lent) (call .message) k (call .request) e) (λ r t. absurd (false≢true t))

@@ -21,7 +21,7 @@ balanced-next p call k b =
     let c = p .cache in
     let r = call .request in
     stepped c call (λ o. Balanced (added p r o))
-    (λ e. let h = effects c (call .lent) (call .list) r k e .held in omega arith)
+    (λ e. let h = effects c (call .lent) (call .message) r k e .held in omega arith)
     (λ x. b)
 
 pub sound-past : (c : Cache) (calls : List Call) → Sound c → Sound (past c calls .cache)

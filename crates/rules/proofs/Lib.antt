@@ -8,6 +8,9 @@ pub mod Epochs
 pub mod Loops
 pub mod Free
 pub mod Steps
+pub mod Messages
+pub mod Readers
+pub mod Beginnings
 pub mod Sound
 pub mod Fit
 pub mod Moved

@@ -239,13 +239,19 @@ turns-move {may} {sets} {turn} g (suc n) x row w k =
 
 -- ---- making room
 
--- moves keep the mode
+-- moves keep the mode and the next number
+abbrev pub Stays : Cache → Cache → Type 0
+Stays c d = (d .mode ≡ c .mode) × (d .next ≡ c .next)
+
+pub moves-stay : {may sets : Bool} {w v : Work} → Moves may sets w v → Stays (w .cache) (v .cache)
+moves-stay done = (refl, refl)
+moves-stay (evicts a e g l d m) = moves-stay m
+moves-stay (writes a e r k g l d s m) = moves-stay m
+moves-stay (tunes n h k y m) = moves-stay m
+moves-stay (ages y m) = moves-stay m
+
 pub moves-mode : {may sets : Bool} {w v : Work} → Moves may sets w v → v .cache .mode ≡ w .cache .mode
-moves-mode done = refl
-moves-mode (evicts a e g l d m) = moves-mode m
-moves-mode (writes a e r k g l d s m) = moves-mode m
-moves-mode (tunes n h k y m) = moves-mode m
-moves-mode (ages y m) = moves-mode m
+moves-mode m = moves-stay m .0
 
 -- alone writes; a lead and a standby do not
 pub room-moves : {sets : Bool} (x : ℕ) (row : Bool) (w : Work) → Sound (w .cache) → Moves (isAlone (w .cache .mode)) sets w (makeRoom x row w)

@@ -1,6 +1,7 @@
--- The first in the order of judging is given: each request's tests stand by rising rank, and the first that passes is taken.
+-- The first in the order of judging is given: each request's tests stand by rising rank, and the first that passes is taken. But for take
+-- it is the lowest number.
 use Prim.Native.Nat.{ℕ}
-use mathlib.Core.Path.{refl}
+use mathlib.Core.Path.{_≡_, refl, subst}
 use mathlib.Core.Bool.{Bool}
 use mathlib.Core.Option.{Option}
 use mathlib.Core.List.{List, [], _∷_, map}
@@ -13,7 +14,7 @@ use Rattle.rules.specs.declared.request.Request.the-variants.{Insert, Pr
 use Rattle.rules.specs.Answers.{refusalNumber}
 use Rattle.rules.specs.Cache.{Cache}
 use Rattle.rules.specs.Opening.{refusalOfOpening, openingTests}
-use Rattle.rules.specs.Precedence.{rank, passing, Lowest}
+use Rattle.rules.specs.Precedence.{rank, NoTake, passing, Lowest}
 use Rattle.rules.specs.Refusals.{Call, Test, tests, firstOf, refusalOf}
 use Rattle.rules.specs.Rising.{Above, Rising}
 use Rattle.rules.proofs.Tests.{split, choose}
@@ -35,26 +36,46 @@ module _ (place : Refusal → ℕ) where
       (λ p. rw p (passing place l, refl, above-passing (place (t .1)) l (h .0)))
       (λ p. rw p (lowest l (h .1)))
 
-rising-tests : (c : Cache) (lent : ℕ) (list : List ℕ) (r : Request) → Rising (places (rank r) (tests c lent list r))
+rising-tests : (c : Cache) (lent : ℕ) (message : List ℕ) (r : Request) → Rising (places (rank r) (tests c lent message r))
 unfolding tests
-rising-tests c lent list (Insert a s) = omega arith
-rising-tests c lent list (Protect x a s) = omega arith
-rising-tests c lent list (Release a) = omega arith
-rising-tests c lent list (ReleaseChanged a s) = omega arith
-rising-tests c lent list (Pin a) = omega arith
-rising-tests c lent list (Unpin a) = omega arith
-rising-tests c lent list (Resize a s) = omega arith
-rising-tests c lent list (Discard a) = omega arith
-rising-tests c lent list Flush = omega arith
-rising-tests c lent list Sync = omega arith
-rising-tests c lent list Take = omega arith
-rising-tests c lent list (Configure s) = omega arith
+rising-tests c lent message (Insert a s) = omega arith
+rising-tests c lent message (Protect x a s) = omega arith
+rising-tests c lent message (Release a) = omega arith
+rising-tests c lent message (ReleaseChanged a s) = omega arith
+rising-tests c lent message (Pin a) = omega arith
+rising-tests c lent message (Unpin a) = omega arith
+rising-tests c lent message (Resize a s) = omega arith
+rising-tests c lent message (Discard a) = omega arith
+rising-tests c lent message Flush = omega arith
+rising-tests c lent message Sync = omega arith
+rising-tests c lent message Take = omega arith
+rising-tests c lent message (Configure s) = omega arith
 
 pub lowest-of-request : (c : Cache) (call : Call)
-    → Lowest (rank (call .request)) (refusalOf c call) (passing (rank (call .request)) (tests c (call .lent) (call .list) (call .request)))
+    → Lowest (rank (call .request)) (refusalOf c call) (passing (rank (call .request)) (tests c (call .lent) (call .message) (call .request)))
 unfolding refusalOf
 lowest-of-request c call =
-    lowest (rank (call .request)) (tests c (call .lent) (call .list) (call .request)) (rising-tests c (call .lent) (call .list) (call .request))
+    lowest (rank (call .request)) (tests c (call .lent) (call .message) (call .request)) (rising-tests c (call .lent) (call .message) (call .request))
+
+-- but for take this is the lowest number
+by-number : (r : Request) → NoTake r → rank r ≡ refusalNumber
+by-number (Insert a s) n = refl
+by-number (Protect x a s) n = refl
+by-number (Release a) n = refl
+by-number (ReleaseChanged a s) n = refl
+by-number (Pin a) n = refl
+by-number (Unpin a) n = refl
+by-number (Resize a s) n = refl
+by-number (Discard a) n = refl
+by-number Flush n = refl
+by-number Sync n = refl
+by-number Take n = absurd (n refl)
+by-number (Configure s) n = refl
+
+pub lowest-number : (c : Cache) (call : Call) → NoTake (call .request)
+    → Lowest refusalNumber (refusalOf c call) (passing refusalNumber (tests c (call .lent) (call .message) (call .request)))
+lowest-number c call n =
+    subst (λ (place : Refusal → ℕ). Lowest place (refusalOf c call) (passing place (tests c (call .lent) (call .message) (call .request)))) (by-number (call .request) n) (lowest-of-request c call)
 
 pub lowest-of-opening : (n : ℕ) (long : Bool) (m : Option Mode) (t : ℕ) (s : Settings)
     → Lowest refusalNumber (refusalOfOpening n long m t s) (passing refusalNumber (openingTests n long m t s))

@@ -109,9 +109,9 @@ writes-at : (rows : List Row) (l : List ℕ) → addresses (writesOf rows l) ≡
 writes-at rows [] = refl
 writes-at rows (a ∷ l) = ap (λ (r : List ℕ). a ∷ r) (writes-at rows l)
 
-pub sends : (c : Cache) (list : List ℕ) {r : Request} → Sends r → Sound c → Sent c (effect c list r)
+pub sends : (c : Cache) (message : List ℕ) {r : Request} → Sends r → Sound c → Sent c (effect c message r)
 unfolding effect
-sends c list flush k =
+sends c message flush k =
     let l = dirtyRising (c .rows) in
     let o = flush-order (c .rows) (k .distinct) in
     let e = writes-at (c .rows) l in
@@ -120,7 +120,7 @@ sends c list flush k =
       once = rw e (rising-once l (o .rising));
       dirty = λ b h. sym (o .dirty b) ∙ ap (elem b) (sym e) ∙ h;
     }
-sends c list sync k =
+sends c message sync k =
     let s = sending-pass 0 (c .recency) c (start c) (sending-none c) in
     record {
       ledger = same-ledger (s .sizes) refl;

@@ -36,10 +36,10 @@ outcome P (some r) c w f g = g r
 
 module _ (c : Cache) (call : Call) where
   -- a property of the outcome, of an accepted request from its effect
-  pub stepped : (P : Outcome → Type 0) → (refusalOf c call ≡ none → P (judged none c (effect c (call .list) (call .request))))
+  pub stepped : (P : Outcome → Type 0) → (refusalOf c call ≡ none → P (judged none c (effect c (call .message) (call .request))))
       → ((r : Refusal) → P (record { answer = Refused r; cache = c; orders = [] })) → P (step c call)
   unfolding step
-  stepped P = outcome P (refusalOf c call) c (effect c (call .list) (call .request))
+  stepped P = outcome P (refusalOf c call) c (effect c (call .message) (call .request))
 
   pub accepts : refusalOf c call ≡ none → accepted (step c call) ≡ true
   unfolding step

@@ -1,4 +1,4 @@
--- The answers in document 01's numbering.
+-- The answers by number.
 use Prim.Native.Nat.{ℕ}
 use mathlib.Core.Option.{Option, none, some}
 use Rattle.rules.specs.declared.answer.Answer.{Answer}
@@ -22,6 +22,9 @@ refusalNumber refusal.Pinned = 10
 refusalNumber refusal.Full = 11
 refusalNumber (refusal.Setting field) = 12
 refusalNumber refusal.List = 13
+refusalNumber refusal.Cut = 14
+refusalNumber refusal.Malformed = 15
+refusalNumber refusal.Number = 16
 
 -- The number of an answer: 0 is acceptance.
 abbrev pub answerNumber : Answer → ℕ
@@ -43,6 +46,9 @@ refusalField refusal.Pinned = 0
 refusalField refusal.Full = 0
 refusalField (refusal.Setting field) = field
 refusalField refusal.List = 0
+refusalField refusal.Cut = 0
+refusalField refusal.Malformed = 0
+refusalField refusal.Number = 0
 
 abbrev pub answerField : Answer → ℕ
 answerField (Accepted orders) = 0

@@ -30,6 +30,8 @@ pub record Cache : Type 0 where
   pub hits : ℕ
   -- the byte count since the last list
   pub count : ℕ
+  -- the number of the next list, to be sent or taken; 0 when none is left
+  pub next : ℕ
 
 -- A fresh cache is empty.
 abbrev pub fresh : ℕ → Mode → ℕ → Settings → Cache
@@ -43,6 +45,7 @@ fresh n m t s = record {
   accesses = 0;
   hits = 0;
   count = 0;
+  next = 1;
 }
 
 -- The recency list as the rules read it, tail first.
@@ -62,6 +65,7 @@ withRows rows recency c = record {
   accesses = c .accesses;
   hits = c .hits;
   count = c .count;
+  next = c .next;
 }
 
 abbrev pub withSettings : Settings → Cache → Cache
@@ -75,6 +79,7 @@ withSettings s c = record {
   accesses = c .accesses;
   hits = c .hits;
   count = c .count;
+  next = c .next;
 }
 
 abbrev pub withMaximum : ℕ → Cache → Cache
@@ -88,6 +93,7 @@ withMaximum n c = record {
   accesses = c .accesses;
   hits = c .hits;
   count = c .count;
+  next = c .next;
 }
 
 abbrev pub withCounters : ℕ → ℕ → Cache → Cache
@@ -101,6 +107,7 @@ withCounters n h c = record {
   accesses = n;
   hits = h;
   count = c .count;
+  next = c .next;
 }
 
 abbrev pub withCount : ℕ → Cache → Cache
@@ -114,6 +121,21 @@ withCount n c = record {
   accesses = c .accesses;
   hits = c .hits;
   count = n;
+  next = c .next;
+}
+
+abbrev pub withNext : ℕ → Cache → Cache
+withNext n c = record {
+  rows = c .rows;
+  recency = c .recency;
+  mode = c .mode;
+  threshold = c .threshold;
+  settings = c .settings;
+  maximum = c .maximum;
+  accesses = c .accesses;
+  hits = c .hits;
+  count = c .count;
+  next = n;
 }
 
 -- The entry at an address changed where it stands.

@@ -27,6 +27,7 @@ use Rattle.rules.specs.Answers.{answerNumber}
 use Rattle.rules.specs.Allowed.{Allowed}
 use Rattle.rules.specs.Cache.{Cache, fresh, withCounters}
 use Rattle.rules.specs.Limits.{allOnes, defaultThreshold}
+use Rattle.rules.specs.Messages.{messageOf}
 use Rattle.rules.specs.Opening.{refusalOfOpening}
 use Rattle.rules.specs.Refusals.{Call}
 use Rattle.rules.specs.Reports.{reportOf}
@@ -77,6 +78,8 @@ pub record Gives : Type 0 where
   pub maximum : ℕ
   pub count : ℕ
   pub due : Bool
+  -- the number of the next list
+  pub next : ℕ
 
 pub record Case : Type 0 where
   pub setup : Setup
@@ -100,6 +103,7 @@ run c [] answers orders =
       maximum = r .maximum;
       count = r .count;
       due = r .due;
+      next = r .next;
     }
 run c (call ∷ rest) answers orders =
     let o = step c call in
@@ -117,10 +121,11 @@ AllowedSetups (x ∷ rest) = Allowed (cacheOf (x .setup)) × AllowedSetups rest
 
 -- A request with enough order words for 4 rows.
 abbrev pub ask : Request → Call
-ask r = record { request = r; list = []; lent = 27 }
+ask r = record { request = r; message = []; lent = 27 }
 
-abbrev pub taking : List ℕ → Call
-taking list = record { request = Take; list = list; lent = 0 }
+-- A take of the message of a numbered list.
+abbrev pub taking : ℕ → List ℕ → Call
+taking n list = record { request = Take; message = messageOf n list; lent = 0 }
 
 abbrev pub order : Kind → ℕ → ℕ → Order
 order k a s = record { kind = k; address = a; size = s }
@@ -162,7 +167,7 @@ abbrev pub atEpochEnd : ℕ → Settings → ℕ → ℕ → Case
 atEpochEnd hits s size maximum = record {
   setup = lastAccess hits (alone s);
   calls = ask (Insert 100 size) ∷ ask (Protect Reading 100 size) ∷ [];
-  gives = record { answers = 0 ∷ 0 ∷ []; orders = [] ∷ [] ∷ []; recency = []; held = size; dirty = size; maximum = maximum; count = size; due = false };
+  gives = record { answers = 0 ∷ 0 ∷ []; orders = [] ∷ [] ∷ []; recency = []; held = size; dirty = size; maximum = maximum; count = size; due = false; next = 1 };
 }
 
 -- A rise of a full cache by a multiplier and within a cap, at lower rate 0.9.
@@ -197,6 +202,7 @@ cases =
         maximum = 4096;
         count = 4500;
         due = false;
+        next = 1;
       };
     }
     -- P2: no orders at 96
@@ -212,6 +218,7 @@ cases =
         maximum = 4096;
         count = 4096;
         due = false;
+        next = 1;
       };
     }
     -- P2: P1's three orders at 97
@@ -227,6 +234,7 @@ cases =
         maximum = 4096;
         count = 4097;
         due = false;
+        next = 1;
       };
     }
     -- P3
@@ -244,6 +252,7 @@ cases =
         maximum = 4096;
         count = 110;
         due = false;
+        next = 1;
       };
     }
     -- P4
@@ -259,6 +268,7 @@ cases =
         maximum = 4096;
         count = 0;
         due = false;
+        next = 1;
       };
     }
     -- P5: 4,096 times 1.5
@@ -288,6 +298,7 @@ cases =
         maximum = 4096;
         count = 5024;
         due = false;
+        next = 1;
       };
     }
     -- P8: x of 1,025
@@ -303,6 +314,7 @@ cases =
         maximum = 5025;
         count = 5025;
         due = false;
+        next = 1;
       };
     }
     -- P9: count 1,000
@@ -318,6 +330,7 @@ cases =
         maximum = 4096;
         count = 1000;
         due = false;
+        next = 1;
       };
     }
     -- P9: count 1,200
@@ -333,12 +346,13 @@ cases =
         maximum = 4096;
         count = 1200;
         due = true;
+        next = 1;
       };
     }
     -- P10
     ∷ record {
       setup = opened 4 Standby 1000 small;
-      calls = ask (Insert 100 600) ∷ taking (100 ∷ 100 ∷ []) ∷ ask (Insert allOnes 0) ∷ [];
+      calls = ask (Insert 100 600) ∷ taking 1 (100 ∷ 100 ∷ []) ∷ ask (Insert allOnes 0) ∷ [];
       gives = record {
         answers = 0 ∷ 13 ∷ 3 ∷ [];
         orders = [] ∷ [] ∷ [] ∷ [];
@@ -348,6 +362,7 @@ cases =
         maximum = 4096;
         count = 600;
         due = false;
+        next = 1;
       };
     }
     -- P11
@@ -363,6 +378,7 @@ cases =
         maximum = 4096;
         count = 100;
         due = false;
+        next = 2;
       };
     }
     ∷ []
@@ -412,6 +428,7 @@ further =
         maximum = 6050;
         count = 5025;
         due = false;
+        next = 1;
       };
     }
     -- a pinned clean entry is not in the clean share: the dirty one is written
@@ -428,6 +445,7 @@ further =
         maximum = 4096;
         count = 1300;
         due = false;
+        next = 1;
       };
     }
     -- the clean share is met exactly
@@ -443,6 +461,7 @@ further =
         maximum = 4096;
         count = 2048;
         due = false;
+        next = 1;
       };
     }
     -- a byte short of it
@@ -458,6 +477,7 @@ further =
         maximum = 4096;
         count = 2049;
         due = false;
+        next = 1;
       };
     }
     -- an entry that is dirty already is not counted again
@@ -473,6 +493,7 @@ further =
         maximum = 4096;
         count = 600;
         due = false;
+        next = 1;
       };
     }
     -- a standby evicts nothing dirty: it is above its maximum
@@ -488,12 +509,13 @@ further =
         maximum = 4096;
         count = 4500;
         due = false;
+        next = 1;
       };
     }
     -- a take sets the byte count to 0
     ∷ record {
       setup = opened 4 Standby 500 small;
-      calls = ask (Insert 100 600) ∷ taking (100 ∷ []) ∷ [];
+      calls = ask (Insert 100 600) ∷ taking 1 (100 ∷ []) ∷ [];
       gives = record {
         answers = 0 ∷ 0 ∷ [];
         orders = [] ∷ [] ∷ [];
@@ -503,6 +525,7 @@ further =
         maximum = 4096;
         count = 0;
         due = false;
+        next = 2;
       };
     }
     -- rate 0.9 is not above upper 0.9
@@ -525,6 +548,7 @@ further =
         maximum = 4096;
         count = 50;
         due = false;
+        next = 1;
       };
     }
     -- 12: and goes at the end of the next
@@ -540,6 +564,7 @@ further =
         maximum = 4096;
         count = 50;
         due = false;
+        next = 1;
       };
     }
     -- a lead keeps it, dirty
@@ -555,6 +580,7 @@ further =
         maximum = 4096;
         count = 50;
         due = false;
+        next = 1;
       };
     }
     ∷ []

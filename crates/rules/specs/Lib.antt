@@ -6,6 +6,7 @@ pub mod Cache
 pub mod Room
 pub mod Resizing
 pub mod Answers
+pub mod Messages
 pub mod Refusals
 pub mod Opening
 pub mod Requests

@@ -26,3 +26,11 @@ defaultThreshold = 262_144
 -- where the byte count stops
 abbrev pub countStop : ℕ
 countStop = 1_099_511_627_776
+
+-- the last number of a list
+abbrev pub lastNumber : ℕ
+lastNumber = 0xffff_ffff_ffff_ffff
+
+-- the most addresses of a message
+abbrev pub mostListed : ℕ
+mostListed = 65_535

@@ -1,4 +1,4 @@
--- When a request is refused: for each request its tests, by rising refusal number.
+-- When a request is refused: for each request its tests, in the order of judging, which but for take is by rising refusal number.
 use Prim.Native.Nat.{ℕ, _+_, _*_}
 use mathlib.Core.Bool.{Bool, true, false, not, _&&_, _||_}
 use mathlib.Core.Option.{Option, none, some}
@@ -18,12 +18,13 @@ use Rattle.rules.specs.Addresses.{elem, someAddress, twice}
 use Rattle.rules.specs.Cache.{Cache, recencyList}
 use Rattle.rules.specs.Entries.{if_then_else_, isHeld, isRead, isWritten, forbids}
 use Rattle.rules.specs.Limits.{allOnes, mostSize}
+use Rattle.rules.specs.Messages.{Message, readMessage, isMalformed, isEarly, numberIn, addressesIn}
 use Rattle.rules.specs.Rows.{get, passes, isHere, cleanAt, dirtyAt, hasFree, someEntry}
 
--- A request as the host hands it over: with the list for take, and the number of order words lent.
+-- A request as the host hands it over: with the bytes of the message for take, and the number of order words lent.
 pub record Call : Type 0 where
   pub request : Request
-  pub list : List ℕ
+  pub message : List ℕ
   pub lent : ℕ
 
 -- A test, and the refusal given where it passes.
@@ -83,44 +84,61 @@ noRow c = not (hasFree (c .rows)) && not (c .settings .evictions && someAddress 
 abbrev pub badField : ℕ → Bool
 badField n = not (eqb n 0)
 
+-- 16: no number is left for a list, or it is not the one that comes next.
+abbrev pub noneLeft : Cache → Bool
+noneLeft c = eqb (c .next) 0
+
+abbrev pub notNext : Cache → ℕ → Bool
+notNext c n = noneLeft c || not (eqb n (c .next))
+
+-- 13: a list names an address twice, or one not dirty here.
+abbrev pub badList : Cache → List ℕ → Bool
+badList c list = twice list || someAddress (λ a. not (dirtyAt (c .rows) a)) list
+
+-- What bytes are as a message, for take.
+abbrev pub takeTests : Cache → Message → List Test
+takeTests c m =
+    (not (isStandby (c .mode)), refusal.Mode) ∷ (isMalformed m, refusal.Malformed) ∷ (isEarly m, refusal.Cut)
+    ∷ (notNext c (numberIn m), refusal.Number) ∷ (elem allOnes (addressesIn m), refusal.Address)
+    ∷ (badList c (addressesIn m), refusal.List) ∷ []
+
 -- ---- by request
 
 unfoldable pub tests : Cache → ℕ → List ℕ → Request → List Test
-tests c lent list (Insert a s) =
+tests c lent message (Insert a s) =
     (tooFewWords c lent, refusal.OrderWords) ∷ (badAddress a, refusal.Address) ∷ (badSize s, refusal.Size)
     ∷ (isHere (c .rows) a, refusal.Present) ∷ (noRow c, refusal.Full) ∷ []
-tests c lent list (Protect x a s) =
+tests c lent message (Protect x a s) =
     (tooFewWords c lent, refusal.OrderWords) ∷ (badAddress a, refusal.Address) ∷ (badSize s, refusal.Size)
     ∷ (entryTest c a (λ e. forbids (e .hold) x), refusal.Held) ∷ (not (isHere (c .rows) a) && noRow c, refusal.Full) ∷ []
-tests c lent list (Release a) =
+tests c lent message (Release a) =
     (tooFewWords c lent, refusal.OrderWords) ∷ (badAddress a, refusal.Address) ∷ (not (isHere (c .rows) a), refusal.Absent)
     ∷ (entryTest c a (λ e. not (isHeld (e .hold))), refusal.Unheld) ∷ []
-tests c lent list (ReleaseChanged a s) =
+tests c lent message (ReleaseChanged a s) =
     (tooFewWords c lent, refusal.OrderWords) ∷ (badAddress a, refusal.Address) ∷ (badSize s, refusal.Size)
     ∷ (not (isHere (c .rows) a), refusal.Absent) ∷ (entryTest c a (λ e. isRead (e .hold)), refusal.Held)
     ∷ (entryTest c a (λ e. not (isHeld (e .hold))), refusal.Unheld) ∷ []
-tests c lent list (Pin a) =
+tests c lent message (Pin a) =
     (badAddress a, refusal.Address) ∷ (not (isHere (c .rows) a), refusal.Absent)
     ∷ (entryTest c a (λ e. not (isHeld (e .hold))), refusal.Unheld) ∷ (entryTest c a (λ e. e .pinned), refusal.Pinned) ∷ []
-tests c lent list (Unpin a) =
+tests c lent message (Unpin a) =
     (badAddress a, refusal.Address) ∷ (not (isHere (c .rows) a), refusal.Absent)
     ∷ (entryTest c a (λ e. not (e .pinned)), refusal.Pinned) ∷ []
-tests c lent list (Resize a s) =
+tests c lent message (Resize a s) =
     (badAddress a, refusal.Address) ∷ (badSize s, refusal.Size) ∷ (not (isHere (c .rows) a), refusal.Absent)
     ∷ (entryTest c a (λ e. isRead (e .hold)), refusal.Held)
     ∷ (entryTest c a (λ e. not (e .pinned) && not (isWritten (e .hold))), refusal.Unheld) ∷ []
-tests c lent list (Discard a) =
+tests c lent message (Discard a) =
     (badAddress a, refusal.Address) ∷ (entryTest c a (λ e. isHeld (e .hold)), refusal.Held)
     ∷ (entryTest c a (λ e. e .pinned), refusal.Pinned) ∷ []
-tests c lent list Flush =
+tests c lent message Flush =
     (tooFewWords c lent, refusal.OrderWords) ∷ (isStandby (c .mode), refusal.Mode)
-    ∷ (someEntry (λ e. isHeld (e .hold)) (c .rows), refusal.Held) ∷ []
-tests c lent list Sync = (tooFewWords c lent, refusal.OrderWords) ∷ (not (isLead (c .mode)), refusal.Mode) ∷ []
-tests c lent list Take =
-    (elem allOnes list, refusal.Address) ∷ (not (isStandby (c .mode)), refusal.Mode)
-    ∷ (twice list || someAddress (λ a. not (dirtyAt (c .rows) a)) list, refusal.List) ∷ []
-tests c lent list (Configure s) =
+    ∷ (someEntry (λ e. isHeld (e .hold)) (c .rows), refusal.Held) ∷ (isLead (c .mode) && noneLeft c, refusal.Number) ∷ []
+tests c lent message Sync =
+    (tooFewWords c lent, refusal.OrderWords) ∷ (not (isLead (c .mode)), refusal.Mode) ∷ (noneLeft c, refusal.Number) ∷ []
+tests c lent message Take = takeTests c (readMessage message)
+tests c lent message (Configure s) =
     (tooFewWords c lent, refusal.OrderWords) ∷ (badField (firstBad s false), refusal.Setting (firstBad s false)) ∷ []
 
 unfoldable pub refusalOf : Cache → Call → Option Refusal
-refusalOf c call = firstOf (tests c (call .lent) (call .list) (call .request))
+refusalOf c call = firstOf (tests c (call .lent) (call .message) (call .request))

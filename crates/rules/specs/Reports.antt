@@ -33,6 +33,7 @@ reportOf c = record {
   clean = minimumClean c;
   count = c .count;
   due = due c;
+  next = c .next;
   totals = totalsFrom idleCount 0 11 (c .rows);
 }
 

@@ -16,10 +16,11 @@ use Rattle.rules.specs.declared.request.Access.{Access}
 use Rattle.rules.specs.declared.request.Request.{Request}
 use Rattle.rules.specs.declared.request.Request.the-variants.{Insert, Protect, Release, ReleaseChanged, Pin, Unpin, Resize, Discard, Flush, Sync, Take, Configure}
 use Rattle.rules.specs.Addresses.{strike}
-use Rattle.rules.specs.Cache.{Cache, Work, recencyList, start, give, withRows, withSettings, withMaximum, withCount, amendAt, touch, restart}
+use Rattle.rules.specs.Cache.{Cache, Work, recencyList, start, give, withRows, withSettings, withMaximum, withCount, withNext, amendAt, touch, restart}
 use Rattle.rules.specs.Entries.{if_then_else_, isHeld, cleaned, changedTo, withPin, protectedFor, released, newEntry, joined}
 use Rattle.rules.specs.Limits.{countStop}
-use Rattle.rules.specs.Refusals.{Call, refusalOf}
+use Rattle.rules.specs.Messages.{readMessage, addressesIn, nextAfter}
+use Rattle.rules.specs.Refusals.{Call, refusalOf, isLead}
 use Rattle.rules.specs.Resizing.{flashed, countAccess}
 use Rattle.rules.specs.Room.{makeRoom, writeDirty}
 use Rattle.rules.specs.Rows.{get, passes, amendEach, remove, place, isHere, dirtyAt, sizeAt, dirtyRising}
@@ -76,6 +77,10 @@ writesOf rows list = map (λ a. record { kind = Kind.Write; address = a; size = 
 abbrev pub cleanEach : List ℕ → Cache → Cache
 cleanEach list c = withCount 0 (withRows (amendEach list cleaned (c .rows)) (c .recency) c)
 
+-- A list that a lead sends uses up its number.
+abbrev pub numbered : Cache → Cache
+numbered c = withNext (if isLead (c .mode) then nextAfter (c .next) else c .next) c
+
 -- ---- configure
 
 -- Brought into the range of the settings.
@@ -89,22 +94,22 @@ configured s c = restart (withMaximum (if s .preset then s .initial else brought
 -- ---- by request
 
 unfoldable pub effect : Cache → List ℕ → Request → Work
-effect c list (Insert a s) = inserted a s (makeRoom s true (start (flashed s c)))
-effect c list (Protect x a s) = if isHere (c .rows) a then hit x a c else missed x a s c
-effect c list (Release a) = roomIfReleased a (touch a released c)
-effect c list (ReleaseChanged a s) = roomIfReleased a (touch a (λ e. released (changedTo s e)) (named a s c))
-effect c list (Pin a) = start (amendAt a (withPin true) c)
-effect c list (Unpin a) = start (touch a (withPin false) c)
-effect c list (Resize a s) = start (amendAt a (changedTo s) (named a s c))
-effect c list (Discard a) = start (withRows (remove a (c .rows)) (strike a (c .recency)) c)
-effect c list Flush =
+effect c message (Insert a s) = inserted a s (makeRoom s true (start (flashed s c)))
+effect c message (Protect x a s) = if isHere (c .rows) a then hit x a c else missed x a s c
+effect c message (Release a) = roomIfReleased a (touch a released c)
+effect c message (ReleaseChanged a s) = roomIfReleased a (touch a (λ e. released (changedTo s e)) (named a s c))
+effect c message (Pin a) = start (amendAt a (withPin true) c)
+effect c message (Unpin a) = start (touch a (withPin false) c)
+effect c message (Resize a s) = start (amendAt a (changedTo s) (named a s c))
+effect c message (Discard a) = start (withRows (remove a (c .rows)) (strike a (c .recency)) c)
+effect c message Flush =
     let dirty = dirtyRising (c .rows) in
-    record { cache = cleanEach dirty c; orders = writesOf (c .rows) dirty }
-effect c list Sync =
+    record { cache = numbered (cleanEach dirty c); orders = writesOf (c .rows) dirty }
+effect c message Sync =
     let w = writeDirty 0 (recencyList c) (start c) in
-    record { cache = withCount 0 (w .cache); orders = w .orders }
-effect c list Take = start (cleanEach list c)
-effect c list (Configure s) = makeRoom 0 false (start (configured s c))
+    record { cache = numbered (withCount 0 (w .cache)); orders = w .orders }
+effect c message Take = start (withNext (nextAfter (c .next)) (cleanEach (addressesIn (readMessage message)) c))
+effect c message (Configure s) = makeRoom 0 false (start (configured s c))
 
 -- ---- the step
 
@@ -119,4 +124,4 @@ judged none c w = record { answer = Accepted (length (w .orders)); cache = w .ca
 judged (some r) c w = record { answer = Refused r; cache = c; orders = [] }
 
 unfoldable pub step : Cache → Call → Outcome
-step c call = judged (refusalOf c call) c (effect c (call .list) (call .request))
+step c call = judged (refusalOf c call) c (effect c (call .message) (call .request))

@@ -28,6 +28,12 @@ pub enum Refusal {
     Setting(u64),
     // 13: the taken list names an address twice, or one not dirty here.
     List,
+    // 14: the message's bytes end early.
+    Cut,
+    // 15: the message has a byte that no right message can have there.
+    Malformed,
+    // 16: the message has not the next number, or no number is left to send.
+    Number,
 }
 
 pub enum Answer {

@@ -7,7 +7,7 @@ pub enum Access {
     Writing,
 }
 
-// Take's list of addresses is lent beside the request.
+// Take's message is lent beside the request.
 pub enum Request {
     Insert {
         address: u64,
