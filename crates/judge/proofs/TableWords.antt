@@ -130,14 +130,14 @@ module _ (ws : List ℕ) (t : TableFits ws) where
 
   head-is : ws ≡ headWords (cacheWith count ws) ++ drop headerWords ws
   head-is =
-      let w : take 8 ws ≡ firsts 8 0 0 ws = take-firsts 8 0 0 ws (let h = t .whole in omega arith) in
+      let w : take settingsAt ws ≡ firsts settingsAt 0 0 ws = take-firsts settingsAt 0 0 ws (let h = t .whole in omega arith) in
       let l : count ≡ length (rowsOf count 0 ws) = sym (length-rowsOf count 0 ws) in
       let m : getD ws 2 0 ≡ modeWord (modeOf (getD ws 2 0)) = sym (mode-forth (getD ws 2 0) (t .opening .mode)) in
-      let s : drop 8 ws ≡ settingsWords (settingsOf (drop settingsAt ws)) ++ drop headerWords ws =
-      passed .1 ∙ ap (λ (x : List ℕ). settingsWords (settingsOf (drop settingsAt ws)) ++ x) (drop-drop 21 8 ws) in
-      sym (take-append-drop 8 ws)
-      ∙ ap (λ (x : List ℕ). x ++ drop 8 ws) w
-      ∙ (λ j. t .opening .version j ∷ l j ∷ m j ∷ getD ws 3 0 ∷ getD ws 4 0 ∷ getD ws 5 0 ∷ getD ws 6 0 ∷ getD ws 7 0 ∷ s j)
+      let s : drop settingsAt ws ≡ settingsWords (settingsOf (drop settingsAt ws)) ++ drop headerWords ws =
+      passed .1 ∙ ap (λ (x : List ℕ). settingsWords (settingsOf (drop settingsAt ws)) ++ x) (drop-drop 21 settingsAt ws) in
+      sym (take-append-drop settingsAt ws)
+      ∙ ap (λ (x : List ℕ). x ++ drop settingsAt ws) w
+      ∙ (λ j. t .opening .version j ∷ l j ∷ m j ∷ getD ws 3 0 ∷ getD ws 4 0 ∷ getD ws 5 0 ∷ getD ws 6 0 ∷ getD ws 7 0 ∷ getD ws 8 0 ∷ s j)
 
   -- the words are those of the cache read from them
   pub words-are : ws ≡ encode (cacheIn ws) (restIn ws)

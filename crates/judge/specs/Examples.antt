@@ -19,16 +19,16 @@ use Rattle.judge.specs.Verdict.{_and_, everyEntry, everyAddress, distinc
 -- Three rows: an entry that is listed, a free row, and a pinned entry that is held for writing; and a word past the layout's end.
 abbrev table : List ℕ
 table =
-    version ∷ 3 ∷ 1 ∷ 1_000 ∷ 4_096 ∷ 99 ∷ 99 ∷ countStop
-    -- 8: settings, with no rule on
+    version ∷ 3 ∷ 1 ∷ 1_000 ∷ 4_096 ∷ 99 ∷ 99 ∷ countStop ∷ 1
+    -- 9: settings, with no rule on
     ∷ 1 ∷ 0 ∷ 0 ∷ 0 ∷ 16_384 ∷ 1_024 ∷ 100 ∷ 0 ∷ 0 ∷ 0 ∷ 0 ∷ 0 ∷ 0 ∷ 0 ∷ 0 ∷ 0 ∷ 0 ∷ 0 ∷ 0 ∷ 0 ∷ 0
-    -- 29, 35, 41: rows
+    -- 30, 36, 42: rows
     ∷ 300 ∷ 4_096 ∷ 1 ∷ 3 ∷ 0 ∷ 0
     ∷ 0 ∷ 0 ∷ 0 ∷ 0 ∷ 0 ∷ 0
     ∷ 200 ∷ 100 ∷ 0 ∷ 10 ∷ 1 ∷ 65_536
-    -- 47: the recency run
+    -- 48: the recency run
     ∷ 0 ∷ ones ∷ ones
-    -- 50: the address run
+    -- 51: the address run
     ∷ 2 ∷ 0 ∷ ones
     ∷ 77 ∷ []
 
@@ -44,7 +44,7 @@ pub cases : List Case
 cases =
     -- as it is, and with another word past the layout's end
     put 0 version true
-    ∷ put 53 5 true
+    ∷ put 54 5 true
     -- the header
     ∷ put 0 0 false
     ∷ put 1 0 false
@@ -57,36 +57,39 @@ cases =
     ∷ put 6 98 true
     ∷ put 6 100 false
     ∷ put 7 1_099_511_627_777 false
-    ∷ put 8 2 false
-    ∷ put 14 99 false
+    -- any number may be next
+    ∷ put 8 0 true
+    ∷ put 8 ones true
+    ∷ put 9 2 false
+    ∷ put 15 99 false
     -- row 0
-    ∷ put 29 ones false
-    ∷ put 29 200 false
-    ∷ put 29 201 true
-    ∷ put 30 0 false
-    ∷ put 30 134_217_729 false
-    ∷ put 31 2 false
-    ∷ put 32 10 true
-    ∷ put 32 11 false
-    ∷ put 33 1 false
+    ∷ put 30 ones false
+    ∷ put 30 200 false
+    ∷ put 30 201 true
+    ∷ put 31 0 false
+    ∷ put 31 134_217_729 false
+    ∷ put 32 2 false
+    ∷ put 33 10 true
+    ∷ put 33 11 false
     ∷ put 34 1 false
-    -- row 1, which is free
     ∷ put 35 1 false
+    -- row 1, which is free
+    ∷ put 36 1 false
     -- row 2
-    ∷ put 46 1 true
-    ∷ put 46 0 true
-    ∷ put 46 65_537 false
+    ∷ put 47 1 true
+    ∷ put 47 0 true
+    ∷ put 47 65_537 false
     -- the recency run: no row, a free row, a held row, a row twice, a word after the end
-    ∷ put 47 3 false
-    ∷ put 47 1 false
-    ∷ put 47 2 false
-    ∷ put 47 ones false
-    ∷ put 48 0 false
+    ∷ put 48 3 false
+    ∷ put 48 1 false
+    ∷ put 48 2 false
+    ∷ put 48 ones false
     ∷ put 49 0 false
-    -- the address run
     ∷ put 50 0 false
-    ∷ put 51 ones false
-    ∷ put 52 1 false
+    -- the address run
+    ∷ put 51 0 false
+    ∷ put 52 ones false
+    ∷ put 53 1 false
     ∷ []
 
 pub cases-hold : every holds cases ≡ true

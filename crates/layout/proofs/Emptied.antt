@@ -12,7 +12,7 @@ use Rattle.settings.specs.declared.Mode.{Mode}
 use Rattle.rules.specs.Cache.{fresh}
 use Rattle.layout.specs.Layout.{ones, version, headerWords, width, recencyAt, layoutWords, modeWord, settingsAt}
 use Rattle.layout.specs.Leaves.{putSettings, fillPart}
-use Rattle.layout.specs.Picture.{addresses, rowsWords, run, encode}
+use Rattle.layout.specs.Picture.{addresses, rowsWords, run, firstWords, encode}
 use Rattle.layout.proofs.Leaves.{over-next}
 
 addresses-free : (n : ℕ) → addresses (replicate n Free) ≡ []
@@ -34,7 +34,7 @@ run-free n = let e : n - 0 ≡ n = omega arith in rw e
 module _ (n : ℕ) (m : Mode) (t : ℕ) (s : Settings) (ws : List ℕ) where
   -- the words before the settings
   abbrev pub first : List ℕ
-  first = version ∷ n ∷ modeWord m ∷ t ∷ s .initial ∷ 0 ∷ 0 ∷ 0 ∷ []
+  first = firstWords n (fresh n m t s)
 
   encode-free : (rest : List ℕ)
       → encode (fresh n m t s) rest ≡ (first ++ settingsWords s) ++ (replicate (n * width) 0 ++ (replicate n ones ++ (replicate n ones ++ rest)))

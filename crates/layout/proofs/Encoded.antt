@@ -16,14 +16,14 @@ use Rattle.rules.specs.declared.entry.Row.the-variants.{Free, Used}
 use Rattle.rules.specs.declared.entry.Row.{Row}
 use Rattle.rules.specs.Addresses.{elem, strike, twice}
 use Rattle.rules.specs.Allowed.{Distinct}
-use Rattle.rules.specs.Cache.{Cache, withRows, withSettings, withMaximum, withCounters, withCount, amendAt}
+use Rattle.rules.specs.Cache.{Cache, withRows, withSettings, withMaximum, withCounters, withCount, withNext, amendAt}
 use Rattle.rules.specs.Rows.{get, passes, amend, remove, place, hasFree}
 use Rattle.rules.proofs.Found.{length-amend, length-remove, length-place}
 use Rattle.rules.proofs.Lists.{elem-strike}
 use Rattle.rules.proofs.Rising.{rising-once}
-use Rattle.layout.specs.Layout.{version, settingsAt, width, rowAt, recencyAt, addressesAt, modeWord}
+use Rattle.layout.specs.Layout.{settingsAt, width, rowAt, recencyAt, addressesAt}
 use Rattle.layout.specs.Leaves.{over, putRow, runCut, runPut, putSettings}
-use Rattle.layout.specs.Picture.{rowNumber, addresses, rowWords, headWords, encode}
+use Rattle.layout.specs.Picture.{rowNumber, addresses, rowWords, firstWords, headWords, encode}
 use Rattle.layout.specs.Places.{lowestFree, placeOf}
 use Rattle.layout.proofs.Cuts.{cut, ins, cut-run, put-run, map-cut, map-ins, map-end, map-absent, map-same, cut-strike, insert-ins, place-low}
 use Rattle.layout.proofs.Numbers.{stands, elem-addresses, rising-addresses, addresses-remove, addresses-place, used-most}
@@ -45,7 +45,7 @@ module _ (c : Cache) (rest : List ℕ) where
   unfolding encode
   laid-encode rows k e p q =
       rw (p, q)
-      (ap (λ (n : ℕ). laid (version ∷ n ∷ modeWord (c .mode) ∷ c .threshold ∷ c .maximum ∷ c .accesses ∷ c .hits ∷ c .count ∷ settingsWords (c .settings)) rows
+      (ap (λ (n : ℕ). laid (firstWords n c ++ settingsWords (c .settings)) rows
       (map (rowNumber rows) k) (map (rowNumber rows) (addresses rows)) rest) (sym e))
 
   -- a word of a row
@@ -177,7 +177,11 @@ module _ (c : Cache) (rest : List ℕ) where
   unfolding encode
   count-encode v = refl
 
+  pub next-encode : (v : ℕ) → set (encode c rest) 8 v ≡ encode (withNext v c) rest
+  unfolding encode
+  next-encode v = refl
+
   pub settings-encode : (s : Settings) → putSettings s (encode c rest) ≡ encode (withSettings s c) rest
   unfolding encode putSettings
   settings-encode s =
-      over-seam (λ old. settingsWords s) (version ∷ length (c .rows) ∷ modeWord (c .mode) ∷ c .threshold ∷ c .maximum ∷ c .accesses ∷ c .hits ∷ c .count ∷ []) (settingsWords (c .settings)) _ settingsAt 21 refl (words-length (c .settings))
+      over-seam (λ old. settingsWords s) (firstWords (length (c .rows)) c) (settingsWords (c .settings)) _ settingsAt 21 refl (words-length (c .settings))

@@ -8,11 +8,12 @@
 --   5          accesses
 --   6          hits
 --   7          byte count
---   8 .. 28    settings
---   29         rows, 6 words each: address, size, dirty, idle, pinned, hold
---   29 + 6 n   recency run: row numbers from the tail to the head, then all ones
---   29 + 7 n   address run: row numbers of the entries by rising address, then all ones
---   29 + 8 n   the end of the layout
+--   8          the next list's number
+--   9 .. 29    settings
+--   30         rows, 6 words each: address, size, dirty, idle, pinned, hold
+--   30 + 6 n   recency run: row numbers from the tail to the head, then all ones
+--   30 + 7 n   address run: row numbers of the entries by rising address, then all ones
+--   30 + 8 n   the end of the layout
 use Prim.Native.Nat.{ℕ, _+_, _*_}
 use mathlib.Core.List.{List, [], _∷_}
 use lib.Dec.{eqb}
@@ -31,7 +32,7 @@ ones = 0xffff_ffff_ffff_ffff
 
 -- "SPLDVT" and the layout's number.
 abbrev pub version : ℕ
-version = 0x5350_4c44_5654_0001
+version = 0x5350_4c44_5654_0002
 
 -- The header's words.
 abbrev pub versionAt : ℕ
@@ -58,11 +59,14 @@ hitsAt = 6
 abbrev pub countAt : ℕ
 countAt = 7
 
+abbrev pub nextAt : ℕ
+nextAt = 8
+
 abbrev pub settingsAt : ℕ
-settingsAt = 8
+settingsAt = 9
 
 abbrev pub headerWords : ℕ
-headerWords = 29
+headerWords = 30
 
 -- Words of a row.
 abbrev pub width : ℕ

@@ -13,7 +13,7 @@ use Rattle.rules.specs.declared.order.Order.{Order}
 use Rattle.rules.specs.Addresses.{insertRising}
 use Rattle.rules.specs.Cache.{Cache}
 use Rattle.rules.specs.Entries.{if_then_else_}
-use Rattle.layout.specs.Layout.{ones, version, rowCountAt, modeAt, thresholdAt, maximumAt, accessesAt, hitsAt, countAt, settingsAt, rowAt, recencyAt, addressesAt, layoutWords, modeWord, modeOf, holdWord, holdOf, kindWord}
+use Rattle.layout.specs.Layout.{ones, version, rowCountAt, modeAt, thresholdAt, maximumAt, accessesAt, hitsAt, countAt, nextAt, settingsAt, rowAt, recencyAt, addressesAt, layoutWords, modeWord, modeOf, holdWord, holdOf, kindWord}
 
 -- ---- rows by number
 
@@ -55,10 +55,12 @@ rowsWords (r ∷ rows) = rowWords r ++ rowsWords rows
 unfoldable pub run : ℕ → List ℕ → List ℕ
 run n l = l ++ replicate (n - length l) ones
 
+-- The header before the settings, with n rows.
+abbrev pub firstWords : ℕ → Cache → List ℕ
+firstWords n c = version ∷ n ∷ modeWord (c .mode) ∷ c .threshold ∷ c .maximum ∷ c .accesses ∷ c .hits ∷ c .count ∷ c .next ∷ []
+
 abbrev pub headWords : Cache → List ℕ
-headWords c =
-    version ∷ length (c .rows) ∷ modeWord (c .mode) ∷ c .threshold ∷ c .maximum ∷ c .accesses ∷ c .hits ∷ c .count
-    ∷ settingsWords (c .settings)
+headWords c = firstWords (length (c .rows)) c ++ settingsWords (c .settings)
 
 -- The words of a cache, and after them the rest of the table.
 unfoldable pub encode : Cache → List ℕ → List ℕ
@@ -107,6 +109,7 @@ cacheWith n ws = record {
   accesses = getD ws accessesAt 0;
   hits = getD ws hitsAt 0;
   count = getD ws countAt 0;
+  next = getD ws nextAt 0;
 }
 
 unfoldable pub cacheIn : List ℕ → Cache

@@ -33,7 +33,7 @@ pub fn write_fresh(table: &mut [u64], rows: usize, mode: Mode, threshold: u64, s
     ensures { λ _. ⌜ FloatsFit s ⌝ }
 {
     let mode = mode_word(mode);
-    let head = [VERSION, rows as u64, mode, threshold, s.initial, 0, 0, 0];
+    let head = [VERSION, rows as u64, mode, threshold, s.initial, 0, 0, 0, 1];
     words::copy_in(table, &head);
     put_settings(table, s);
     fill_part(table, HEADER, rows * WIDTH, 0);

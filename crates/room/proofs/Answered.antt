@@ -13,9 +13,9 @@ use Rattle.layout.specs.Holds.{Holds}
 use Rattle.room.specs.Answered.{Answered}
 use Rattle.room.specs.Did.{putOrders, Did}
 
-step-by : (c : Cache) (call : Call) (o : Option Refusal) → refusalOf c call ≡ o → step c call ≡ judged o c (effect c (call .list) (call .request))
+step-by : (c : Cache) (call : Call) (o : Option Refusal) → refusalOf c call ≡ o → step c call ≡ judged o c (effect c (call .message) (call .request))
 unfolding step
-step-by c call o e = ap (λ (x : Option Refusal). judged x c (effect c (call .list) (call .request))) e
+step-by c call o e = ap (λ (x : Option Refusal). judged x c (effect c (call .message) (call .request))) e
 
 -- a refusal leaves the table and the words as they were
 pub answered-not : {ws : List ℕ} {c : Cache} {rest : List ℕ} (call : Call) (lent : List ℕ) (r : Refusal) → Holds ws c rest → refusalOf c call ≡ some r → Answered (step c call) rest ws lent lent (Refused r)
@@ -25,7 +25,7 @@ answered-not {ws} {c} {rest} call lent r h e =
 
 -- no test passes, and the request's work is done
 pub answered-done : (c : Cache) (call : Call) {rest out lent words : List ℕ} {given : ℕ} → refusalOf c call ≡ none
-    → Did (effect c (call .list) (call .request)) rest out 0 lent words given → Answered (step c call) rest out lent words (Accepted given)
+    → Did (effect c (call .message) (call .request)) rest out 0 lent words given → Answered (step c call) rest out lent words (Accepted given)
 answered-done c call {rest} {out} {lent} {words} {given} e d =
     let number = d .number in
     subst (λ (o : Outcome). Answered o rest out lent words (Accepted given)) (sym (step-by c call none e))

@@ -5,12 +5,12 @@ use mathlib.Core.Path.{_≡_, refl, ap, _∙_}
 use lib.ListN.{set}
 use Rattle.settings.specs.declared.Settings.{Settings}
 use Rattle.settings_words.specs.FloatsFit.{FloatsFit}
-use Rattle.rules.specs.Cache.{Cache, withSettings, withMaximum, withCounters, withCount}
+use Rattle.rules.specs.Cache.{Cache, withSettings, withMaximum, withCounters, withCount, withNext}
 use Rattle.rules.specs.Limits.{countStop}
 use Rattle.rules.proofs.Moves.{sound-same}
 use Rattle.layout.specs.Holds.{Steady, Holds}
 use Rattle.layout.specs.Leaves.{putSettings}
-use Rattle.layout.proofs.Encoded.{maximum-encode, counters-encode, count-encode, settings-encode}
+use Rattle.layout.proofs.Encoded.{maximum-encode, counters-encode, count-encode, next-encode, settings-encode}
 use Rattle.layout.proofs.Held.{holds}
 use Rattle.table.specs.Asked.{Settable}
 
@@ -46,6 +46,11 @@ module _ {ws : List ℕ} {c : Cache} {rest : List ℕ} (h : Holds ws c rest) whe
   count-holds n l =
       holds (ap (λ (x : List ℕ). set x 7 n) (h .words) ∙ count-encode c rest n)
       (steady-as c (withCount n c) (h .steady) refl refl (h .steady .floats) as-before l)
+
+  pub next-holds : (n : ℕ) → Holds (set ws 8 n) (withNext n c) rest
+  next-holds n =
+      holds (ap (λ (x : List ℕ). set x 8 n) (h .words) ∙ next-encode c rest n)
+      (steady-as c (withNext n c) (h .steady) refl refl (h .steady .floats) as-before (h .steady .count))
 
   pub settings-holds : (s : Settings) (n : ℕ) → FloatsFit s → Settable s n → Holds (set (putSettings s ws) 4 n) (withMaximum n (withSettings s c)) rest
   settings-holds s n f k =

@@ -2,7 +2,7 @@
 ghost use mathlib.Core.Path.{_≡_};
 ghost use Prim.Native.Nat.{_≤_};
 ghost use lib.ListN.{length};
-ghost use Rattle.rules.specs.Cache.{withSettings, withMaximum, withCounters, withCount, restart};
+ghost use Rattle.rules.specs.Cache.{withSettings, withMaximum, withCounters, withCount, withNext, restart};
 ghost use Rattle.rules.specs.Limits.{countStop};
 ghost use Rattle.layout.specs.Picture.{cacheIn, restIn};
 ghost use Rattle.layout.specs.Holds.{Holds, Good};
@@ -12,6 +12,7 @@ use layout::COUNT_AT;
 use layout::HITS_AT;
 use layout::MAXIMUM_AT;
 use layout::MODE_AT;
+use layout::NEXT_AT;
 use layout::ROW_COUNT_AT;
 use layout::THRESHOLD_AT;
 use layout::header::put_settings;
@@ -70,6 +71,14 @@ pub fn count(table: &[u64]) -> u64
     table[COUNT_AT]
 }
 
+// The next list's number.
+pub fn next_number(table: &[u64]) -> u64
+    requires { ⌜ Good (now table) ⌝ }
+    ensures { λ r. ⌜ r ≡ cacheIn (now (table .entry)) .next ⌝ }
+{
+    table[NEXT_AT]
+}
+
 pub fn settings(table: &[u64]) -> Settings
     requires { ⌜ Good (now table) ⌝ }
     ensures { λ r. ⌜ r ≡ cacheIn (now (table .entry)) .settings ⌝ }
@@ -106,6 +115,13 @@ pub fn set_count(table: &mut [u64], n: u64)
     ensures { λ _. ⌜ Holds (now (table .exit)) (withCount n (cacheIn (now (table .entry)))) (restIn (now (table .entry))) ⌝ }
 {
     table[COUNT_AT] = n;
+}
+
+pub fn set_next(table: &mut [u64], n: u64)
+    requires { ⌜ Good (now table) ⌝ }
+    ensures { λ _. ⌜ Holds (now (table .exit)) (withNext n (cacheIn (now (table .entry)))) (restIn (now (table .entry))) ⌝ }
+{
+    table[NEXT_AT] = n;
 }
 
 // New settings and a maximum within their range.

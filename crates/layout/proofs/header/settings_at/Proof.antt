@@ -6,6 +6,7 @@ use lib.ListN.{length, drop, length-drop}
 use lib.Seq.{take-all}
 use borrow.Author.Needs.{needs}
 use Rattle.settings_words.specs.Picture.{settingsOf}
+use Rattle.layout.specs.Layout.{settingsAt}
 use Rattle.layout.proofs.header.settings_at.Statement.{statement}
 use Rattle.layout.proofs.header.settings_at.Tie as tie
 
@@ -24,8 +25,8 @@ settings-of-requires c κs = search needs
 returns : tie.Need-returns
 returns c =
     let t = c .before .before .before .args .table .now in
-    let l = length-drop 8 t in
-    c .settings-of .ensures ∙ ap settingsOf (take-all (length t - 8) (drop 8 t) (omega arith))
+    let l = length-drop settingsAt t in
+    c .settings-of .ensures ∙ ap settingsOf (take-all (length t - settingsAt) (drop settingsAt t) (omega arith))
 
 pub settings-at-spec : {M : Type 1} → statement M
 settings-at-spec =
