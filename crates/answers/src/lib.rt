@@ -1,4 +1,4 @@
-// A refusal in document 01's numbering.
+// A refusal in the documents' numbering.
 ghost use mathlib.Core.Path.{_≡_};
 ghost use Rattle.rules.specs.Answers.{refusalNumber, refusalField};
 use rules::answer::Refusal;
@@ -20,6 +20,9 @@ pub fn refusal_number(x: Refusal) -> u64
         Refusal::Full => 11,
         Refusal::Setting(_) => 12,
         Refusal::List => 13,
+        Refusal::Cut => 14,
+        Refusal::Malformed => 15,
+        Refusal::Number => 16,
     }
 }
 
@@ -41,5 +44,8 @@ pub fn refusal_field(x: Refusal) -> u64
         Refusal::Full => 0,
         Refusal::Setting(field) => field,
         Refusal::List => 0,
+        Refusal::Cut => 0,
+        Refusal::Malformed => 0,
+        Refusal::Number => 0,
     }
 }

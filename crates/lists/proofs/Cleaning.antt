@@ -13,16 +13,19 @@ use Rattle.rules.proofs.Tests.{neither}
 use Rattle.rules.specs.Addresses.{elem}
 use Rattle.rules.specs.Cache.{Cache, withRows, amendAt}
 use Rattle.rules.specs.Entries.{cleaned}
+use Rattle.rules.specs.Limits.{mostRows}
 use Rattle.rules.specs.Rows.{get, amend, amendEach}
 use Rattle.rules.specs.declared.entry.Entry.{Entry}
 use Rattle.rules.specs.declared.entry.Row.{Row}
 use Rattle.layout.proofs.Held.{holds-cache, holds-rest}
-use Rattle.layout.proofs.Numbers.{elem-addresses}
+use Rattle.layout.proofs.Numbers.{elem-addresses, number-low}
 use Rattle.layout.proofs.Rows.{addresses-amend, number-amend}
 use Rattle.layout.specs.Holds.{Holds}
 use Rattle.layout.specs.Picture.{rowNumber, addresses, cacheIn, restIn}
 use Rattle.table.proofs.Told.{good-rows}
 use Rattle.table.specs.Asked.{GoodRows, RowOf}
+use Rattle.table_tests.specs.Noted.{Noted}
+use Rattle.taken_list.proofs.Marked.{named-row}
 use Rattle.lists.specs.Taken.{taken}
 
 -- ---- entries cleaned one by one
@@ -87,3 +90,30 @@ module _ {c : Cache} {rest list ws : List ℕ} {i : ℕ} (k : Cleaning c rest li
 
   pub cleaning-end : length list ≤ i → Holds ws (taken list c) rest
   cleaning-end h = subst (λ (l : List ℕ). Holds ws (taken l c) rest) (take-all i list h) (k .holds)
+
+-- ---- by the rows noted
+
+module _ {c : Cache} {list named : List ℕ} {n : ℕ} (k : Noted c list named n) (few : length (c .rows) ≤ mostRows) {i : ℕ} (h : i < n) where
+  pub noted-place : i < mostRows
+  noted-place = omega (arith, k .count, k .rows .few)
+
+  pub noted-low : getD named i 0 < length (c .rows)
+  noted-low =
+      let r = named-row (k .rows) i (omega (arith, k .count)) in
+      let l = number-low (c .rows) (getD list i 0) (r .here) in
+      let e = r .number in
+      omega arith
+
+  module _ {rest ws : List ℕ} (w : Cleaning c rest list ws i) where
+    pub noted-rows : {m : ℕ} → m ≡ length (c .rows) → GoodRows ws m
+    noted-rows e = taken-rows c (take i list) (w .holds) e
+
+    noted-row : RowOf (cacheIn ws .rows) (getD list i 0) (getD named i 0)
+    noted-row = taken-row c (take i list) (w .holds) (named-row (k .rows) i (omega (arith, k .count)))
+
+    module _ {a : ℕ} (e : (b : ℕ) → RowOf (cacheIn ws .rows) b (getD named i 0) → a ≡ b) where
+      pub noted-address : RowOf (cacheIn ws .rows) a (getD named i 0)
+      noted-address = rw (e (getD list i 0) noted-row) noted-row
+
+      pub noted-on : {out : List ℕ} → Holds out (amendAt a cleaned (cacheIn ws)) (restIn ws) → Cleaning c rest list out (i + 1)
+      noted-on {out} m = cleaning-on w (omega (arith, k .count)) (subst (λ (b : ℕ). Holds out (amendAt b cleaned (cacheIn ws)) (restIn ws)) (e (getD list i 0) noted-row) m)

@@ -1,2 +1,3 @@
 pub mod Cleaning
 pub mod Flushing
+pub mod Numbering

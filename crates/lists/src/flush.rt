@@ -16,6 +16,7 @@ ghost use Rattle.room.specs.Did.{Did};
 ghost use Rattle.table.specs.Asked.{GoodRows};
 ghost use Rattle.table.specs.Told.{Gives};
 ghost use Rattle.lists.specs.Flushed.{allWritten};
+use crate::number::use_number;
 use table::header::row_count;
 use table::header::set_count;
 use table::lookup::address_row;
@@ -76,5 +77,6 @@ pub fn flush(table: &mut [u64], orders: &mut [u64]) -> usize
     let rows = row_count(table);
     let given = write_all(table, orders, rows);
     set_count(table, 0);
+    use_number(table);
     given
 }

@@ -7,6 +7,7 @@ ghost use Rattle.rules.specs.Requests.{effect};
 ghost use Rattle.layout.specs.Picture.{cacheIn, restIn};
 ghost use Rattle.refusals.specs.Unrefused.{Unrefused};
 ghost use Rattle.room.specs.Did.{Did};
+use crate::number::use_number;
 use room::write_dirty;
 use table::header::row_count;
 use table::header::set_count;
@@ -20,5 +21,6 @@ pub fn sync(table: &mut [u64], orders: &mut [u64]) -> usize
     let held = held_bytes(table, rows);
     let given = write_dirty(table, orders, rows, 0, held, 0);
     set_count(table, 0);
+    use_number(table);
     given
 }

@@ -18,11 +18,11 @@ pub fn refusal_of(
     rows: usize,
     found: Found,
     lent: usize,
-    list: &[u64],
+    message: &[u8],
     request: Request,
 ) -> Verdict
     requires { ⌜ GoodRows (now table) rows × (found ≡ foundFor (cacheIn (now table) .rows) request) ⌝ }
-    ensures { λ r. ⌜ r ≡ verdictOf (refusalOf (cacheIn (now (table .entry))) (asking request (now (list .entry)) lent)) ⌝ }
+    ensures { λ r. ⌜ r ≡ verdictOf (refusalOf (cacheIn (now (table .entry))) (asking request (now (message .entry)) lent)) ⌝ }
 {
     match request {
         Request::Insert { address, size } => {
@@ -43,7 +43,7 @@ pub fn refusal_of(
         Request::Discard { address } => entry_tests::discard(table, rows, found, address),
         Request::Flush => table_tests::flush(table, rows, lent),
         Request::Sync => table_tests::sync(table, rows, lent),
-        Request::Take => table_tests::take(table, rows, list),
+        Request::Take => table_tests::take::take(table, rows, message),
         Request::Configure(s) => table_tests::configure(table, rows, lent, s),
     }
 }

@@ -9,6 +9,7 @@ use layout::WIDTH;
 use rules::report::Report;
 use table::header::count;
 use table::header::maximum;
+use table::header::next_number;
 use table::header::row_count;
 use table::header::settings;
 use table::header::threshold;
@@ -34,7 +35,7 @@ pub fn idle_totals(table: &[u64], rows: usize) -> [u64; 11]
 }
 
 // Held and dirty bytes, entries, maximum, minimum clean bytes, the byte count, whether a list is
-// due, and the totals.
+// due, the next list's number, and the totals.
 pub fn report_of(table: &[u64]) -> Report
     requires { ⌜ Good (now table) ⌝ }
     ensures { λ r. ⌜ r ≡ reportOf (cacheIn (now (table .entry))) ⌝ }
@@ -48,6 +49,7 @@ pub fn report_of(table: &[u64]) -> Report
     let clean = fraction::size_product(maximum, s.clean);
     let count = count(table);
     let threshold = threshold(table);
+    let next = next_number(table);
     let totals = idle_totals(table, rows);
     Report {
         held,
@@ -57,6 +59,7 @@ pub fn report_of(table: &[u64]) -> Report
         clean,
         count,
         due: threshold < count,
+        next,
         totals,
     }
 }

@@ -9,8 +9,8 @@ use native.Mathlib.Nat.{eq-or-lt-of-le}
 use native.Mathlib.Numerals.{add-one}
 use native.Mathlib.Omega.{arith}
 use lib.Dec.{eqb}
-use lib.ListN.{length, getD, take, drop, drop-of-length-le, set, replicate, length-set, length-replicate, length-take}
-use lib.Seq.{take-all, take-suc, drop-cons, split-at, getD-set-same, getD-set-other}
+use lib.ListN.{length, getD, take, drop, set, replicate, length-set, length-replicate, length-take}
+use lib.Seq.{take-all, take-suc, split-at, getD-set-same, getD-set-other}
 use borrow.Author.Tests.{eqb-true, eqb-false, eq-eqb, not-false}
 use Rattle.rules.proofs.Lists.{elem-append, elem-first, twice-last}
 use Rattle.rules.proofs.Tests.{split, either, or-true, or-false, neither, swap}
@@ -26,17 +26,6 @@ use Rattle.table.specs.Asked.{RowOf}
 use Rattle.table.specs.Told.{foundIn}
 use Rattle.table.specs.declared.lookup.Found.the-variants.{At, Nothing}
 use Rattle.taken_list.specs.Listed.{badList, dirtyFound, Named, JudgedBad}
-
--- ---- a list walked
-
-module _ (a : ℕ) (l : List ℕ) (i : ℕ) where
-  pub elem-next : i < length l → elem a (drop i l) ≡ (eqb (getD l i 0) a || elem a (drop (i + 1) l))
-  unfolding elem
-  elem-next h = ap (elem a) (drop-cons l i 0 h ∙ ap (λ (n : ℕ). getD l i 0 ∷ drop n l) (sym (add-one i)))
-
-  pub elem-end : length l ≤ i → elem a (drop i l) ≡ false
-  unfolding elem
-  elem-end h = rw (drop-of-length-le l h)
 
 -- ---- lists in two parts
 
@@ -176,6 +165,13 @@ seen-set seen row r h =
     split (eqb row r)
     (λ q. rw (q, ← eqb-true row r q, getD-set-same seen row true false h) (sym (or-true (getD seen row false))))
     (λ q. rw (q, or-false (getD seen r false)) (getD-set-other seen row r true false (eqb-false r row (swap row r q))))
+
+-- more addresses than rows: one of them comes twice or is not dirty
+pub long-bad : (rows : List Row) (l : List ℕ) → length rows < length l → badList rows l ≡ true
+long-bad rows l h =
+    split (badList rows l)
+    (λ b. b)
+    (λ b. let n = neither (twice l) _ b in let f = few-named rows l (n .0) (n .1) in absurd (omega arith))
 
 pub judged-bad : {rows : List Row} {list named : List ℕ} → badList rows list ≡ true → JudgedBad rows list named true
 judged-bad b = record { verdict = sym b; noted = λ e. absurd (false≢true (sym e)) }

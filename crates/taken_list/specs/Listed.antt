@@ -5,15 +5,14 @@ use mathlib.Core.List.{List}
 use mathlib.Core.Path.{_≡_}
 use lib.ListN.{length, getD}
 use Rattle.rules.specs.declared.entry.Row.{Row}
-use Rattle.rules.specs.Addresses.{elem, someAddress, twice}
+use Rattle.rules.specs.Addresses.{someAddress, twice}
 use Rattle.rules.specs.Entries.{if_then_else_}
 use Rattle.rules.specs.Rows.{dirtyAt}
-use Rattle.rules.specs.Limits.{allOnes, mostRows}
+use Rattle.rules.specs.Limits.{mostRows}
 use Rattle.layout.specs.Picture.{rowNumber}
 use Rattle.table.specs.declared.lookup.Found.{Found}
 use Rattle.table.specs.declared.lookup.Found.the-variants.{Nothing}
 use Rattle.table.specs.Told.{foundIn}
-use Rattle.taken_list.specs.declared.Faults.{Faults}
 
 -- It names an address twice, or one not dirty here.
 abbrev pub badList : List Row → List ℕ → Bool
@@ -33,8 +32,3 @@ pub record Named (rows : List Row) (list named : List ℕ) : Type 0 where
 pub record JudgedBad (rows : List Row) (list named : List ℕ) (bad : Bool) : Type 0 where
   pub verdict : bad ≡ badList rows list
   pub noted : bad ≡ false → Named rows list named
-
--- What its tests ask of a list; if it is not bad, its rows are noted.
-pub record Judged (rows : List Row) (list named : List ℕ) (faults : Faults) : Type 0 where
-  pub ones : faults .ones ≡ elem allOnes list
-  pub bad : JudgedBad rows list named (faults .bad)

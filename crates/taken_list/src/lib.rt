@@ -1,47 +1,40 @@
-// A taken list: whether it may be taken, and the rows that it names.
+// A taken list: whether it is bad, and the rows that it names.
 ghost use mathlib.Core.Path.{_≡_};
 ghost use lib.ListN.{length};
-ghost use Rattle.rules.specs.Addresses.{elem};
-ghost use Rattle.rules.specs.Limits.{allOnes, mostRows};
+ghost use Rattle.rules.specs.Limits.{mostRows};
 ghost use Rattle.layout.specs.Picture.{addresses, cacheIn};
 ghost use Rattle.table.specs.Asked.{GoodRows};
-ghost use Rattle.taken_list.specs.Listed.{dirtyFound, Judged, JudgedBad};
-use entries::bad_address;
+ghost use Rattle.table.specs.Told.{foundIn};
+ghost use Rattle.taken_list.specs.Listed.{dirtyFound, JudgedBad};
 use table::lookup::Found;
+use table::lookup::address_row;
 use table::lookup::entry_of;
 use table::lookup::find_near;
+use table::lookup::key_at;
 use table::runs::used_len;
 
 pub const MOST_ROWS: usize = 4096;
 
-// What the tests ask of a list.
-pub struct Faults {
-    // It names all ones.
-    pub ones: bool,
-    // It names an address twice, or one not dirty here.
-    pub bad: bool,
-}
-
-// Whether the list names all ones.
-fn names_all_ones(list: &[u64]) -> bool
-    ensures { λ r. ⌜ r ≡ elem allOnes (now (list .entry)) ⌝ }
+// Where an address stands among the n, looked for first at the place `near`.
+fn find_next(table: &[u64], rows: usize, n: usize, near: usize, address: u64) -> Found
+    requires { ⌜ GoodRows (now table) rows × (n ≡ length (addresses (cacheIn (now table) .rows))) ⌝ }
+    ensures { λ r. ⌜ r ≡ foundIn (cacheIn (now (table .entry)) .rows) address ⌝ }
 {
-    let mut i: usize = 0;
-    while i < list.len() {
-        if bad_address(list[i]) {
-            return true;
+    if near < n {
+        if key_at(table, rows, near) == address {
+            let row = address_row(table, rows, near);
+            return Found::At { place: near, row };
         }
-        i += 1;
     }
-    false
+    find_near(table, rows, n, near, address)
 }
 
-// Where an address that is dirty here stands among the n, looked for first at the place `near`.
+// The same of an address that is dirty here.
 fn find_dirty(table: &[u64], rows: usize, n: usize, near: usize, address: u64) -> Found
     requires { ⌜ GoodRows (now table) rows × (n ≡ length (addresses (cacheIn (now table) .rows))) ⌝ }
     ensures { λ r. ⌜ r ≡ dirtyFound (cacheIn (now (table .entry)) .rows) address ⌝ }
 {
-    let found = find_near(table, rows, n, near, address);
+    let found = find_next(table, rows, n, near, address);
     match found {
         Found::Nothing => Found::Nothing,
         Found::At { place, row } => {
@@ -57,7 +50,7 @@ fn find_dirty(table: &[u64], rows: usize, n: usize, near: usize, address: u64) -
 
 // Whether the list names an address twice, or one not dirty here; if not, its rows are noted. Each row that it names is marked, and
 // each address is looked for after the one before it.
-fn bad_list(table: &[u64], rows: usize, list: &[u64], named: &mut [u16; MOST_ROWS]) -> bool
+pub fn bad_list(table: &[u64], rows: usize, list: &[u64], named: &mut [u16; MOST_ROWS]) -> bool
     requires { ⌜ GoodRows (now table) rows × (length (now named) ≡ mostRows) ⌝ }
     ensures { λ r. ⌜ JudgedBad (cacheIn (now (table .entry)) .rows) (now (list .entry)) (now (named .exit)) r ⌝ }
 {
@@ -79,16 +72,4 @@ fn bad_list(table: &[u64], rows: usize, list: &[u64], named: &mut [u16; MOST_ROW
         i += 1;
     }
     false
-}
-
-// Judges a list for its tests; if it is not bad, the rows that it names are noted.
-pub fn judge_list(table: &[u64], rows: usize, list: &[u64], named: &mut [u16; MOST_ROWS]) -> Faults
-    requires { ⌜ GoodRows (now table) rows × (length (now named) ≡ mostRows) ⌝ }
-    ensures { λ r. ⌜ Judged (cacheIn (now (table .entry)) .rows) (now (list .entry)) (now (named .exit)) r ⌝ }
-{
-    let bad = bad_list(table, rows, list, named);
-    Faults {
-        ones: names_all_ones(list),
-        bad,
-    }
 }

@@ -29,14 +29,19 @@ first-of false r l = refl
 pub on : {t u : Bool} {r : Refusal} {l : List Test} {v w : Verdict} → w ≡ testedBefore t r v → t ≡ u → Tells v l → Tells w ((u, r) ∷ l)
 on {t} {u} {r} {l} e p k = record { same = e ∙ ap (testedBefore t r) (k .same) ∙ ap (λ (b : Bool). testedBefore b r (verdictOf (firstOf l))) p ∙ first-of u r l }
 
+-- the first test that passes
+pub stops : {u : Bool} {r : Refusal} {l : List Test} → u ≡ true → Tells (verdict.Refused r) ((u, r) ∷ l)
+unfolding firstOf
+stops e = record { same = rw e }
+
 -- a test that fails
 pub past : {u : Bool} {r : Refusal} {l : List Test} {v : Verdict} → u ≡ false → Tells v l → Tells v ((u, r) ∷ l)
 past {u} {r} {l} {v} p k = record { same = k .same ∙ ap (λ (b : Bool). testedBefore b r (verdictOf (firstOf l))) (sym p) ∙ first-of u r l }
 
 -- by the request that was matched
-pub matched : (c : Cache) (list : List ℕ) (lent : ℕ) {q r : Request} {v : Verdict} → q ≡ r → Tells v (tests c lent list r) → v ≡ verdictOf (refusalOf c (asking q list lent))
+pub matched : (c : Cache) (message : List ℕ) (lent : ℕ) {q r : Request} {v : Verdict} → q ≡ r → Tells v (tests c lent message r) → v ≡ verdictOf (refusalOf c (asking q message lent))
 unfolding refusalOf
-matched c list lent e k = k .same ∙ ap (λ (r : Request). verdictOf (firstOf (tests c lent list r))) (sym e)
+matched c message lent e k = k .same ∙ ap (λ (r : Request). verdictOf (firstOf (tests c lent message r))) (sym e)
 
 -- ---- a refusal, or none, of a verdict
 

@@ -80,40 +80,40 @@ configure-requires : tie.Need-configure-requires
 configure-requires c κs = search needs
 
 returns : tie.Need-returns
-returns c = matched (cacheIn (c .before .before .before .before .before .before .args .table .now)) (c .before .before .before .before .before .before .args .list .now) (c .before .before .before .before .before .before .args .lent) (c .before .before .request .given .1) (c .insert .ensures _)
+returns c = matched (cacheIn (c .before .before .before .before .before .before .args .table .now)) (c .before .before .before .before .before .before .args .message .now) (c .before .before .before .before .before .before .args .lent) (c .before .before .request .given .1) (c .insert .ensures _)
 
 returns-2 : tie.Need-returns-2
-returns-2 c = matched (cacheIn (c .before .before .before .before .before .before .args .table .now)) (c .before .before .before .before .before .before .args .list .now) (c .before .before .before .before .before .before .args .lent) (c .before .before .request2 .given .1) (c .protect .ensures _)
+returns-2 c = matched (cacheIn (c .before .before .before .before .before .before .args .table .now)) (c .before .before .before .before .before .before .args .message .now) (c .before .before .before .before .before .before .args .lent) (c .before .before .request2 .given .1) (c .protect .ensures _)
 
 returns-3 : tie.Need-returns-3
-returns-3 c = matched (cacheIn (c .before .before .before .before .before .before .args .table .now)) (c .before .before .before .before .before .before .args .list .now) (c .before .before .before .before .before .before .args .lent) (c .before .before .request3 .given .1) (c .release .ensures _)
+returns-3 c = matched (cacheIn (c .before .before .before .before .before .before .args .table .now)) (c .before .before .before .before .before .before .args .message .now) (c .before .before .before .before .before .before .args .lent) (c .before .before .request3 .given .1) (c .release .ensures _)
 
 returns-4 : tie.Need-returns-4
-returns-4 c = matched (cacheIn (c .before .before .before .before .before .before .args .table .now)) (c .before .before .before .before .before .before .args .list .now) (c .before .before .before .before .before .before .args .lent) (c .before .before .request4 .given .1) (c .release-changed .ensures _)
+returns-4 c = matched (cacheIn (c .before .before .before .before .before .before .args .table .now)) (c .before .before .before .before .before .before .args .message .now) (c .before .before .before .before .before .before .args .lent) (c .before .before .request4 .given .1) (c .release-changed .ensures _)
 
 returns-5 : tie.Need-returns-5
-returns-5 c = matched (cacheIn (c .before .before .before .before .before .before .args .table .now)) (c .before .before .before .before .before .before .args .list .now) (c .before .before .before .before .before .before .args .lent) (c .before .before .request5 .given .1) (c .pin .ensures _ _)
+returns-5 c = matched (cacheIn (c .before .before .before .before .before .before .args .table .now)) (c .before .before .before .before .before .before .args .message .now) (c .before .before .before .before .before .before .args .lent) (c .before .before .request5 .given .1) (c .pin .ensures _ _)
 
 returns-6 : tie.Need-returns-6
-returns-6 c = matched (cacheIn (c .before .before .before .before .before .before .args .table .now)) (c .before .before .before .before .before .before .args .list .now) (c .before .before .before .before .before .before .args .lent) (c .before .before .request6 .given .1) (c .unpin .ensures _ _)
+returns-6 c = matched (cacheIn (c .before .before .before .before .before .before .args .table .now)) (c .before .before .before .before .before .before .args .message .now) (c .before .before .before .before .before .before .args .lent) (c .before .before .request6 .given .1) (c .unpin .ensures _ _)
 
 returns-7 : tie.Need-returns-7
-returns-7 c = matched (cacheIn (c .before .before .before .before .before .before .args .table .now)) (c .before .before .before .before .before .before .args .list .now) (c .before .before .before .before .before .before .args .lent) (c .before .before .request7 .given .1) (c .resize .ensures _ _)
+returns-7 c = matched (cacheIn (c .before .before .before .before .before .before .args .table .now)) (c .before .before .before .before .before .before .args .message .now) (c .before .before .before .before .before .before .args .lent) (c .before .before .request7 .given .1) (c .resize .ensures _ _)
 
 returns-8 : tie.Need-returns-8
-returns-8 c = matched (cacheIn (c .before .before .before .before .before .before .args .table .now)) (c .before .before .before .before .before .before .args .list .now) (c .before .before .before .before .before .before .args .lent) (c .before .before .request8 .given .1) (c .discard .ensures _ _)
+returns-8 c = matched (cacheIn (c .before .before .before .before .before .before .args .table .now)) (c .before .before .before .before .before .before .args .message .now) (c .before .before .before .before .before .before .args .lent) (c .before .before .request8 .given .1) (c .discard .ensures _ _)
 
 returns-9 : tie.Need-returns-9
-returns-9 c = matched (cacheIn (c .before .before .before .before .before .args .table .now)) (c .before .before .before .before .before .args .list .now) (c .before .before .before .before .before .args .lent) (c .before .enum-told .given .1) (c .flush .ensures _)
+returns-9 c = matched (cacheIn (c .before .before .before .before .before .args .table .now)) (c .before .before .before .before .before .args .message .now) (c .before .before .before .before .before .args .lent) (c .before .enum-told .given .1) (c .flush .ensures _)
 
 returns-10 : tie.Need-returns-10
-returns-10 c = matched (cacheIn (c .before .before .before .before .before .args .table .now)) (c .before .before .before .before .before .args .list .now) (c .before .before .before .before .before .args .lent) (c .before .enum-told2 .given .1) (c .sync .ensures _)
+returns-10 c = matched (cacheIn (c .before .before .before .before .before .args .table .now)) (c .before .before .before .before .before .args .message .now) (c .before .before .before .before .before .args .lent) (c .before .enum-told2 .given .1) (c .sync .ensures _)
 
 returns-11 : tie.Need-returns-11
-returns-11 c = matched (cacheIn (c .before .before .before .before .before .args .table .now)) (c .before .before .before .before .before .args .list .now) (c .before .before .before .before .before .args .lent) (c .before .enum-told3 .given .1) (c .take .ensures _)
+returns-11 c = matched (cacheIn (c .before .before .before .before .before .args .table .now)) (c .before .before .before .before .before .args .message .now) (c .before .before .before .before .before .args .lent) (c .before .enum-told3 .given .1) (c .take .ensures _)
 
 returns-12 : tie.Need-returns-12
-returns-12 c = matched (cacheIn (c .before .before .before .before .before .before .args .table .now)) (c .before .before .before .before .before .before .args .list .now) (c .before .before .before .before .before .before .args .lent) (c .before .before .request9 .given .1) (c .configure .ensures _)
+returns-12 c = matched (cacheIn (c .before .before .before .before .before .before .args .table .now)) (c .before .before .before .before .before .before .args .message .now) (c .before .before .before .before .before .before .args .lent) (c .before .before .request9 .given .1) (c .configure .ensures _)
 
 pub refusal-of-spec : {M : Type 1} → statement M
 refusal-of-spec =
