@@ -75,4 +75,4 @@ batch-past ws calls orders requests answers =
     (tablePast ws calls .table) orders requests answers (every-named requests) ([], refl)
   where
     goes-on : Keeps (λ r. Unit) (λ (vs : List ℕ). (more : List TableCall) × (vs ≡ tablePast ws (more ++ calls) .table))
-    goes-on vs os r q f p = (record { request = r; orders = os; list = []; floats = f } ∷ p .0, ap (λ (us : List ℕ). stepWords us os [] r .table) (p .1))
+    goes-on vs os r q f p = (record { request = r; orders = os; message = []; floats = f } ∷ p .0, ap (λ (us : List ℕ). stepWords us os [] r .table) (p .1))

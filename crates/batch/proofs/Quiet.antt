@@ -69,23 +69,23 @@ still-held : (c : Cache) (w : Work) {came went : ℕ} → held (w .cache) + (wen
 unfolding evictedBytes
 still-held c w h i j z = let n : evictedBytes (w .orders) ≡ 0 = ap evictedBytes (none-given (w .orders) z) in omega arith
 
-missing : (x : Access) (a s : ℕ) (c : Cache) (list : List ℕ) → isHere (c .rows) a ≡ false → length (effect c list (Protect x a s) .orders) ≡ 0 → ⊥
+missing : (x : Access) (a s : ℕ) (c : Cache) (message : List ℕ) → isHere (c .rows) a ≡ false → length (effect c message (Protect x a s) .orders) ≡ 0 → ⊥
 unfolding effect
-missing x a s c list p z = miss-gives x a s c (rw p at z)
+missing x a s c message p z = miss-gives x a s c (rw p at z)
 
-quiet-effect : (c : Cache) (lent : ℕ) (list : List ℕ) {r : Request} → Quiet r → Sound c → refusalOf c (record { request = r; list = list; lent = lent }) ≡ none
-    → length (effect c list r .orders) ≡ 0 → held (effect c list r .cache) ≡ held c
+quiet-effect : (c : Cache) (lent : ℕ) (message : List ℕ) {r : Request} → Quiet r → Sound c → refusalOf c (record { request = r; message = message; lent = lent }) ≡ none
+    → length (effect c message r .orders) ≡ 0 → held (effect c message r .cache) ≡ held c
 unfolding refusalOf
-quiet-effect c lent list (release a) k e z = still-held c (effect c list (Release a)) (effects c lent list (Release a) k e .held) refl refl z
-quiet-effect c lent list (protect x a s) k e z =
+quiet-effect c lent message (release a) k e z = still-held c (effect c message (Release a)) (effects c lent message (Release a) k e .held) refl refl z
+quiet-effect c lent message (protect x a s) k e z =
     split (isHere (c .rows) a)
-    (λ p. still-held c (effect c list (Protect x a s)) (effects c lent list (Protect x a s) k e .held) (rw p refl) refl z)
-    (λ p. absurd (missing x a s c list p z))
+    (λ p. still-held c (effect c message (Protect x a s)) (effects c lent message (Protect x a s) k e .held) (rw p refl) refl z)
+    (λ p. absurd (missing x a s c message p z))
 
 quiet-step : (c : Cache) (call : Call) → Quiet (call .request) → Sound c → answerOrders (step c call .answer) ≡ 0 → held (step c call .cache) ≡ held c
 quiet-step c call q k =
     stepped c call (λ (o : Outcome). answerOrders (o .answer) ≡ 0 → held (o .cache) ≡ held c)
-    (λ e z. quiet-effect c (call .lent) (call .list) q k e z) (λ x z. refl)
+    (λ e z. quiet-effect c (call .lent) (call .message) q k e z) (λ x z. refl)
 
 -- ---- over words
 

@@ -29,7 +29,7 @@ after b table orders answers = record { batched = b; table = table; orders = ord
 
 -- ---- one request
 
--- As a step does it, with no list. A kind that a batch has not is meant for no mode: 5.
+-- As a step does it, with no message. A kind that a batch has not is meant for no mode: 5.
 abbrev pub doneWith : Asked → List ℕ → List ℕ → Left
 doneWith Unknown table orders = left (Refused refusal.Mode) table orders
 doneWith (Known r) table orders = stepWords table orders [] r

@@ -70,8 +70,9 @@ fn one(table: &mut [u64], orders: &mut [u64], words: &[u64], known: Held) -> Ans
     requires { ⌜ (judgeWords (now table) ≡ true) × (3 ≤ length (now words)) × HeldIs known (cacheIn (now table)) ⌝ }
     ensures { λ r. ⌜ left r (now (table .exit)) (now (orders .exit)) ≡ doneWith (asked (plainOf (getD (now (words .entry)) 0 0) (getD (now (words .entry)) 1 0) (getD (now (words .entry)) 2 0))) (now (table .entry)) (now (orders .entry)) ⌝ }
 {
+    let none = [0u8; 1];
     match plain_request(words[0], words[1], words[2]) {
-        Asked::Known(request) => step_judged(table, orders, &words[0..0], request, known),
+        Asked::Known(request) => step_judged(table, orders, &none[0..0], request, known),
         Asked::Unknown => Answer::Refused(Refusal::Mode),
     }
 }

@@ -22,12 +22,12 @@ use Rattle.cache.specs.Asked.{askWords}
 use Rattle.cache.specs.Tables.{stepWords}
 use Rattle.cache.proofs.StepAnswers.{same-answer}
 
-module _ (ws list : List ℕ) (lent : ℕ) (r : Request) where
-  pub ask-damaged : judgeWords ws ≡ false → verdict.Refused refusal.Table ≡ askWords ws lent list r
+module _ (ws message : List ℕ) (lent : ℕ) (r : Request) where
+  pub ask-damaged : judgeWords ws ≡ false → verdict.Refused refusal.Table ≡ askWords ws lent message r
   unfolding askWords
   ask-damaged v = rw v
 
-  pub ask-told : {v₀ : Verdict} → judgeWords ws ≡ true → v₀ ≡ verdictOf (refusalOf (cacheIn ws) (asking r list lent)) → v₀ ≡ askWords ws lent list r
+  pub ask-told : {v₀ : Verdict} → judgeWords ws ≡ true → v₀ ≡ verdictOf (refusalOf (cacheIn ws) (asking r message lent)) → v₀ ≡ askWords ws lent message r
   unfolding askWords
   ask-told v p = rw v p
 
@@ -37,16 +37,16 @@ judged-verdict : (o : Option Refusal) (c : Cache) (w : Work) → verdictOf o ≡
 judged-verdict none c w = refl
 judged-verdict (some r) c w = refl
 
-module _ (ws os list : List ℕ) (r : Request) where
-  passed : judgeWords ws ≡ true → askWords ws (length os) list r ≡ verdictIn (stepWords ws os list r .answer)
+module _ (ws os message : List ℕ) (r : Request) where
+  passed : judgeWords ws ≡ true → askWords ws (length os) message r ≡ verdictIn (stepWords ws os message r .answer)
   unfolding askWords step
   passed v =
-      let call = asking r list (length os) in
-      rw v (judged-verdict (refusalOf (cacheIn ws) call) (cacheIn ws) (effect (cacheIn ws) list r)) ∙ ap verdictIn (sym (same-answer ws os list r v))
+      let call = asking r message (length os) in
+      rw v (judged-verdict (refusalOf (cacheIn ws) call) (cacheIn ws) (effect (cacheIn ws) message r)) ∙ ap verdictIn (sym (same-answer ws os message r v))
 
-  damaged : judgeWords ws ≡ false → askWords ws (length os) list r ≡ verdictIn (stepWords ws os list r .answer)
+  damaged : judgeWords ws ≡ false → askWords ws (length os) message r ≡ verdictIn (stepWords ws os message r .answer)
   unfolding askWords stepWords
   damaged v = rw v
 
-  pub ask-step : askWords ws (length os) list r ≡ verdictIn (stepWords ws os list r .answer)
+  pub ask-step : askWords ws (length os) message r ≡ verdictIn (stepWords ws os message r .answer)
   ask-step = split (judgeWords ws) passed damaged

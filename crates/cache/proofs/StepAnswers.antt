@@ -56,28 +56,28 @@ module _ {r v : Bool} (e : r ≡ v) where
 
 -- ---- the equation
 
-pub step-damaged : (ws os list : List ℕ) (r : Request) → judgeWords ws ≡ false → left (Refused refusal.Table) ws os ≡ stepWords ws os list r
+pub step-damaged : (ws os message : List ℕ) (r : Request) → judgeWords ws ≡ false → left (Refused refusal.Table) ws os ≡ stepWords ws os message r
 unfolding stepWords
-step-damaged ws os list r v = rw v
+step-damaged ws os message r v = rw v
 
-module _ (ws os list : List ℕ) (r : Request) (v : judgeWords ws ≡ true) {out words : List ℕ} {ans : Answer} where
+module _ (ws os message : List ℕ) (r : Request) (v : judgeWords ws ≡ true) {out words : List ℕ} {ans : Answer} where
   outcome-left : (o : Outcome) → Answered o (restIn ws) out os words ans → left ans out words ≡ left (o .answer) out (written (o .orders) os)
   outcome-left o a = rw (a .answer, a .orders, put-written os (o .orders))
 
   -- from what the request's own function tells
-  pub step-left : Answered (step (cacheIn ws) (asking r list (length os))) (restIn ws) out os words ans → left ans out words ≡ stepWords ws os list r
+  pub step-left : Answered (step (cacheIn ws) (asking r message (length os))) (restIn ws) out os words ans → left ans out words ≡ stepWords ws os message r
   unfolding stepWords
   step-left a =
       rw v
-      (stepped (cacheIn ws) (asking r list (length os)) (λ (o : Outcome). Answered o (restIn ws) out os words ans → left ans out words ≡ carriedOut (o .answer) o ws os)
+      (stepped (cacheIn ws) (asking r message (length os)) (λ (o : Outcome). Answered o (restIn ws) out os words ans → left ans out words ≡ carriedOut (o .answer) o ws os)
       (λ e b. outcome-left _ b ∙ rw (b .holds .words))
       (λ x b. outcome-left _ b ∙ rw (b .holds .words, ← sound ws v .1, written-none os))
       a)
 
 -- ---- the answer
 
-module _ (ws os list : List ℕ) (r : Request) (v : judgeWords ws ≡ true) where
-  pub carried : let o = step (cacheIn ws) (asking r list (length os)) in stepWords ws os list r ≡ carriedOut (o .answer) o ws os
+module _ (ws os message : List ℕ) (r : Request) (v : judgeWords ws ≡ true) where
+  pub carried : let o = step (cacheIn ws) (asking r message (length os)) in stepWords ws os message r ≡ carriedOut (o .answer) o ws os
   unfolding stepWords
   carried = rw v
 
@@ -85,17 +85,17 @@ module _ (ws os list : List ℕ) (r : Request) (v : judgeWords ws ≡ true) wher
   answer-of (Accepted n) o = refl
   answer-of (Refused x) o = refl
 
-  pub same-answer : stepWords ws os list r .answer ≡ step (cacheIn ws) (asking r list (length os)) .answer
-  same-answer = let o = step (cacheIn ws) (asking r list (length os)) in ap (λ x. x .answer) carried ∙ answer-of (o .answer) o
+  pub same-answer : stepWords ws os message r .answer ≡ step (cacheIn ws) (asking r message (length os)) .answer
+  same-answer = let o = step (cacheIn ws) (asking r message (length os)) in ap (λ x. x .answer) carried ∙ answer-of (o .answer) o
 
 -- ---- by the tests, and by the work
 
-module _ (ws os list : List ℕ) (r : Request) (v : judgeWords ws ≡ true) {v₀ : Verdict} (p : v₀ ≡ verdictOf (refusalOf (cacheIn ws) (asking r list (length os)))) where
-  pub step-not : (x : Refusal) → v₀ ≡ verdict.Refused x → left (Refused x) ws os ≡ stepWords ws os list r
-  step-not x e = step-left ws os list r v (answered-not (asking r list (length os)) os x (good ws v) (verdict-some _ x (sym p ∙ e)))
+module _ (ws os message : List ℕ) (r : Request) (v : judgeWords ws ≡ true) {v₀ : Verdict} (p : v₀ ≡ verdictOf (refusalOf (cacheIn ws) (asking r message (length os)))) where
+  pub step-not : (x : Refusal) → v₀ ≡ verdict.Refused x → left (Refused x) ws os ≡ stepWords ws os message r
+  step-not x e = step-left ws os message r v (answered-not (asking r message (length os)) os x (good ws v) (verdict-some _ x (sym p ∙ e)))
 
-  pub not-refused : v₀ ≡ verdict.Accepted → Unrefused ws (asking r list (length os))
+  pub not-refused : v₀ ≡ verdict.Accepted → Unrefused ws (asking r message (length os))
   not-refused e = record { good = good ws v; allowed = sound ws v .0; accepted = verdict-none _ (sym p ∙ e) }
 
-  pub step-did : v₀ ≡ verdict.Accepted → {out words : List ℕ} {given : ℕ} → Did (effect (cacheIn ws) list r) (restIn ws) out 0 os words given → left (Accepted given) out words ≡ stepWords ws os list r
-  step-did e d = step-left ws os list r v (answered-done (cacheIn ws) (asking r list (length os)) (verdict-none _ (sym p ∙ e)) d)
+  pub step-did : v₀ ≡ verdict.Accepted → {out words : List ℕ} {given : ℕ} → Did (effect (cacheIn ws) message r) (restIn ws) out 0 os words given → left (Accepted given) out words ≡ stepWords ws os message r
+  step-did e d = step-left ws os message r v (answered-done (cacheIn ws) (asking r message (length os)) (verdict-none _ (sym p ∙ e)) d)

@@ -15,5 +15,5 @@ use Rattle.judge.specs.Verdict.{judgeWords}
 
 -- What a request would answer: by the rules' tests, on the cache that the words picture; 1 if they picture none.
 unfoldable pub askWords : List ℕ → ℕ → List ℕ → Request → Verdict
-askWords table lent list r =
-    if judgeWords table then verdictOf (refusalOf (cacheIn table) (asking r list lent)) else verdict.Refused refusal.Table
+askWords table lent message r =
+    if judgeWords table then verdictOf (refusalOf (cacheIn table) (asking r message lent)) else verdict.Refused refusal.Table

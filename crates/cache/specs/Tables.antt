@@ -43,9 +43,9 @@ carriedOut (Refused r) o table orders = left (Refused r) table orders
 
 -- By the rules, on the cache that the words picture; 1 if they picture none.
 unfoldable pub stepWords : List ℕ → List ℕ → List ℕ → Request → Left
-stepWords table orders list r =
+stepWords table orders message r =
     if judgeWords table
-    then (let o = step (cacheIn table) (asking r list (length orders)) in carriedOut (o .answer) o table orders)
+    then (let o = step (cacheIn table) (asking r message (length orders)) in carriedOut (o .answer) o table orders)
     else left (Refused refusal.Table) table orders
 
 -- ---- opening
@@ -78,6 +78,7 @@ noReport = record {
   clean = 0;
   count = 0;
   due = false;
+  next = 0;
   totals = replicate 11 0;
 }
 

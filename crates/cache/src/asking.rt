@@ -10,13 +10,13 @@ use rules::request::Request;
 use table::header::row_count;
 
 // What step would answer to the request, with so many order words lent for it. Nothing is done.
-pub fn ask(table: &[u64], lent: usize, list: &[u64], request: Request) -> Verdict
-    ensures { λ r. ⌜ r ≡ askWords (now (table .entry)) lent (now (list .entry)) request ⌝ }
+pub fn ask(table: &[u64], lent: usize, message: &[u8], request: Request) -> Verdict
+    ensures { λ r. ⌜ r ≡ askWords (now (table .entry)) lent (now (message .entry)) request ⌝ }
 {
     if !judge(table) {
         return Verdict::Refused(Refusal::Table);
     }
     let rows = row_count(table);
     let found = find_named(table, rows, request);
-    refusal_of(table, rows, found, lent, list, request)
+    refusal_of(table, rows, found, lent, message, request)
 }

@@ -1,4 +1,4 @@
-// The cache on a table that the host lends: open, step, ask and report.
+// The cache on a table that the host lends: open, step, ask and report; and the message of a list.
 //
 // Each takes any words. A table is judged before anything else is done with it, but for the old
 // words of one that is opened.
@@ -9,6 +9,8 @@ mod stepping;
 mod work;
 
 pub use asking::ask;
+pub use message::write::Written;
+pub use message::write::write_message;
 pub use opening::open;
 pub use reporting::Reported;
 pub use reporting::report;

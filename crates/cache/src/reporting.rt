@@ -24,6 +24,7 @@ fn no_report() -> Report
         clean: 0,
         count: 0,
         due: false,
+        next: 0,
         totals: [0u64; 11],
     }
 }

@@ -21,32 +21,32 @@ use table::header::row_count;
 pub fn step_judged(
     table: &mut [u64],
     orders: &mut [u64],
-    list: &[u64],
+    message: &[u8],
     request: Request,
     known: Held,
 ) -> Answer
     requires { ⌜ (judgeWords (now table) ≡ true) × HeldIs known (cacheIn (now table)) ⌝ }
-    ensures { λ r. ⌜ left r (now (table .exit)) (now (orders .exit)) ≡ stepWords (now (table .entry)) (now (orders .entry)) (now (list .entry)) request ⌝ }
+    ensures { λ r. ⌜ left r (now (table .exit)) (now (orders .exit)) ≡ stepWords (now (table .entry)) (now (orders .entry)) (now (message .entry)) request ⌝ }
 {
     if let Request::Take = request {
-        return take(table, list);
+        return take(table, message);
     }
     let rows = row_count(table);
     let found = find_named(table, rows, request);
-    let verdict = refusal_of(table, rows, found, orders.len(), list, request);
+    let verdict = refusal_of(table, rows, found, orders.len(), message, request);
     if let Verdict::Refused(refusal) = verdict {
         return Answer::Refused(refusal);
     }
-    let given = carry_out(table, orders, found, list, request, known);
+    let given = carry_out(table, orders, found, message, request, known);
     Answer::Accepted(given as u64)
 }
 
 // Does one request: the answer has the number of orders, which stand in the words lent for them.
-pub fn step(table: &mut [u64], orders: &mut [u64], list: &[u64], request: Request) -> Answer
-    ensures { λ r. ⌜ left r (now (table .exit)) (now (orders .exit)) ≡ stepWords (now (table .entry)) (now (orders .entry)) (now (list .entry)) request ⌝ }
+pub fn step(table: &mut [u64], orders: &mut [u64], message: &[u8], request: Request) -> Answer
+    ensures { λ r. ⌜ left r (now (table .exit)) (now (orders .exit)) ≡ stepWords (now (table .entry)) (now (orders .entry)) (now (message .entry)) request ⌝ }
 {
     if !judge(table) {
         return Answer::Refused(Refusal::Table);
     }
-    step_judged(table, orders, list, request, Held::Unknown)
+    step_judged(table, orders, message, request, Held::Unknown)
 }

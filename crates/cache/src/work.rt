@@ -30,12 +30,12 @@ pub fn carry_out(
     table: &mut [u64],
     orders: &mut [u64],
     found: Found,
-    list: &[u64],
+    message: &[u8],
     request: Request,
     known: Held,
 ) -> usize
-    requires { ⌜ Unrefused (now table) (asking request (now list) (length (now orders))) × NoTake request × (found ≡ foundFor (cacheIn (now table) .rows) request) × HeldIs known (cacheIn (now table)) ⌝ }
-    ensures { λ r. ⌜ Did (effect (cacheIn (now (table .entry))) (now (list .entry)) request) (restIn (now (table .entry))) (now (table .exit)) 0 (now (orders .entry)) (now (orders .exit)) r ⌝ }
+    requires { ⌜ Unrefused (now table) (asking request (now message) (length (now orders))) × NoTake request × (found ≡ foundFor (cacheIn (now table) .rows) request) × HeldIs known (cacheIn (now table)) ⌝ }
+    ensures { λ r. ⌜ Did (effect (cacheIn (now (table .entry))) (now (message .entry)) request) (restIn (now (table .entry))) (now (table .exit)) 0 (now (orders .entry)) (now (orders .exit)) r ⌝ }
 {
     let row = row_in(found);
     match request {

@@ -18,29 +18,29 @@ use Rattle.cache.specs.Asked.{askWords}
 use Rattle.cache.specs.Tables.{stepWords}
 use Rattle.runs.specs.AskedRuns.{Outstanding, pendingOf, Free, AskedRun}
 use Rattle.runs.specs.Hosts.{accepts, TableRun, TablesAgree}
-use Rattle.runs.proofs.Hosts.{tables-agree, takes-list}
+use Rattle.runs.proofs.Hosts.{tables-agree, takes-message}
 
 accepted-of : (a : Answer) → verdictIn a ≡ verdict.Accepted → isAccepted a ≡ true
 accepted-of (Accepted n) e = refl
 accepted-of (Refused r) e = cc
 
-pub asked-accepts : (ws os list : List ℕ) (r : Request) → askWords ws (length os) list r ≡ verdict.Accepted → accepts (stepWords ws os list r) ≡ true
-asked-accepts ws os list r e = accepted-of (stepWords ws os list r .answer) (sym (ask-step ws os list r) ∙ e)
+pub asked-accepts : (ws os message : List ℕ) (r : Request) → askWords ws (length os) message r ≡ verdict.Accepted → accepts (stepWords ws os message r) ≡ true
+asked-accepts ws os message r e = accepted-of (stepWords ws os message r .answer) (sym (ask-step ws os message r) ∙ e)
 
 -- ---- runs
 
 -- the yes of the one that does the change next still stands
 abbrev Stands : Pair (List ℕ) → Outstanding → Type 0
 Stands h Outstanding.nothing = Unit
-Stands h (Outstanding.doing x {r} k n list) = askWords (at (other x) h) n list r ≡ verdict.Accepted
-Stands h (Outstanding.taking x list) = Unit
+Stands h (Outstanding.doing x {r} k n message) = askWords (at (other x) h) n message r ≡ verdict.Accepted
+Stands h (Outstanding.taking x message) = Unit
 
 -- and does so after a request to the other
 moved : (h : Pair (List ℕ)) (y : Side) (ws : List ℕ) (p : Outstanding) → Free y p → Stands h p → Stands (put y ws h) p
 moved h y ws Outstanding.nothing f s = tt
-moved h y ws (Outstanding.doing x {r} k n list) f s =
-    rw f (subst (λ (w : List ℕ). askWords w n list r ≡ verdict.Accepted) (sym (at-other x ws h)) s)
-moved h y ws (Outstanding.taking x list) f s = tt
+moved h y ws (Outstanding.doing x {r} k n message) f s =
+    rw f (subst (λ (w : List ℕ). askWords w n message r ≡ verdict.Accepted) (sym (at-other x ws h)) s)
+moved h y ws (Outstanding.taking x message) f s = tt
 
 record Keeps (t : ℕ) (h : Pair (List ℕ)) (l : Ledger) (p : Outstanding) : Type 0 where
   run : TableRun t h l (pendingOf p)
@@ -48,23 +48,23 @@ record Keeps (t : ℕ) (h : Pair (List ℕ)) (l : Ledger) (p : Outstanding) : Ty
 
 keeps : {t : ℕ} {h : Pair (List ℕ)} {l : Ledger} {p : Outstanding} → AskedRun t h l p → Keeps t h l p
 keeps (AskedRun.opened a b n m s u i j h k) = record { run = TableRun.opened a b n m s u i j h k; stands = tt }
-keeps {p = p} (AskedRun.local {h} x os list r k f w run) =
+keeps {p = p} (AskedRun.local {h} x os message r k f w run) =
     let b = keeps run in
-    record { run = TableRun.local x os list r k f (b .run); stands = moved h x (stepWords (at x h) os list r .table) p w (b .stands) }
-keeps {p = p} (AskedRun.refuses {h} x os list r e w run) =
+    record { run = TableRun.local x os message r k f (b .run); stands = moved h x (stepWords (at x h) os message r .table) p w (b .stands) }
+keeps {p = p} (AskedRun.refuses {h} x os message r e w run) =
     let b = keeps run in
-    record { run = TableRun.refuses x os list r e (b .run); stands = moved h x (stepWords (at x h) os list r .table) p w (b .stands) }
-keeps (AskedRun.begins {h} {r = r} x k os list lent theirs e y run) = record {
-  run = rw (← asked-accepts (at x h) os list r e) (TableRun.begins x k os list (keeps run .run));
+    record { run = TableRun.refuses x os message r e (b .run); stands = moved h x (stepWords (at x h) os message r .table) p w (b .stands) }
+keeps (AskedRun.begins {h} {r = r} x k os message lent theirs e y run) = record {
+  run = rw (← asked-accepts (at x h) os message r e) (TableRun.begins x k os message (keeps run .run));
   stands = subst (λ (w : List ℕ). askWords w lent theirs r ≡ verdict.Accepted) (sym (at-other x _ h)) y;
 }
-keeps (AskedRun.ends {h} {r = r} x k os list run) =
+keeps (AskedRun.ends {h} {r = r} x k os message run) =
     let b = keeps run in
-    record { run = TableRun.ends x k os list true (asked-accepts (at (other x) h) os list r (b .stands)) (b .run); stands = tt }
-keeps (AskedRun.sends x k os list e run) = record { run = TableRun.sends x k os list e (keeps run .run); stands = tt }
-keeps (AskedRun.takes x os list run) =
+    record { run = TableRun.ends x k os message true (asked-accepts (at (other x) h) os message r (b .stands)) (b .run); stands = tt }
+keeps (AskedRun.sends x k os message e w run) = record { run = TableRun.sends x k os message e w (keeps run .run); stands = tt }
+keeps (AskedRun.takes x os message run) =
     let b = keeps run in
-    record { run = TableRun.takes x os list (takes-list (b .run) os) (b .run); stands = tt }
+    record { run = TableRun.takes x os message (takes-message (b .run) os) (b .run); stands = tt }
 
 pub asked-run : {t : ℕ} {h : Pair (List ℕ)} {l : Ledger} {p : Outstanding} → AskedRun t h l p → TableRun t h l (pendingOf p)
 asked-run run = keeps run .run

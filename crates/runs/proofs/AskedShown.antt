@@ -4,14 +4,16 @@ use mathlib.Core.Bool.{true, false}
 use mathlib.Core.List.{List, [], _∷_}
 use mathlib.Core.Option.{none, some}
 use mathlib.Core.Path.{_≡_, refl, _∙_}
+use lib.Dec.{lit≤}
 use lib.ListN.{length, length-replicate}
 use Rattle.settings.specs.declared.Settings.{Settings}
 use Rattle.settings_words.specs.FloatsFit.{FloatsFit}
 use Rattle.rules.proofs.Cases.{computing}
 use Rattle.rules.specs.Cache.{Cache, fresh}
 use Rattle.rules.specs.Cases.{ask, small}
-use Rattle.rules.specs.Hosts.{accepted, asking}
-use Rattle.rules.specs.Ledger.{Ledger, blank, hear, hearList, sentBy, Shared, Local, Sends, insert, protect, unchanged, flush}
+use Rattle.rules.specs.Hosts.{accepted, asking, messageBy, hearMessage}
+use Rattle.rules.specs.Ledger.{Ledger, blank, hear, sentBy, Shared, Local, Sends, insert, protect, unchanged, flush}
+use Rattle.rules.specs.Messages.{Words}
 use Rattle.rules.specs.Opening.{refusalOfOpening}
 use Rattle.rules.specs.Refusals.{Call, refusalOf}
 use Rattle.rules.specs.Requests.{step}
@@ -25,7 +27,7 @@ use Rattle.layout.specs.Layout.{layoutWords}
 use Rattle.cache.specs.Asked.{askWords}
 use Rattle.runs.specs.AskedRuns.{Outstanding, nothing, doing, taking, Free, AskedRun}
 use Rattle.runs.specs.Hosts.{FloatsOf}
-use Rattle.runs.proofs.Hosts.{list-sent, shared-floats, sends-floats}
+use Rattle.runs.proofs.Hosts.{list-sent, message-sent, shared-floats, sends-floats}
 use Rattle.runs.proofs.Pictured.{Pictures, tells, pictures-next, pictures-still, BothPicture, one-goes, both-fresh}
 use Rattle.runs.proofs.Runs.{blank as zeros, with-blank, opens, small-fits}
 
@@ -60,16 +62,16 @@ module _ {t : ℕ} {h : Pair Cache} {l : Ledger} {p : Outstanding} (x : Side) (c
   local : Local (call .request) → FloatsOf (call .request) → Free x p → Played t h l p → Played t (put x (step (at x h) call .cache) h) l p
   local k f w b =
       let os = zeros (call .lent) in
-      goes b x (pictures-next (b .pictures .side x) os (call .list) (call .request) (with-blank (call .request) (call .list) (call .lent)) f)
-      (AskedRun.local x os (call .list) (call .request) k f w (b .run))
+      goes b x (pictures-next (b .pictures .side x) os (call .message) (call .request) (with-blank (call .request) (call .message) (call .lent)) f)
+      (AskedRun.local x os (call .message) (call .request) k f w (b .run))
 
   refuses : accepted (step (at x h) call) ≡ false → Free x p → Played t h l p → Played t (put x (step (at x h) call .cache) h) l p
   refuses e w b =
       let os = zeros (call .lent) in
       let v = b .pictures .side x in
-      let i = with-blank (call .request) (call .list) (call .lent) in
-      let n = tells v os (call .list) (call .request) i ∙ e in
-      goes b x (pictures-still v os (call .list) (call .request) i n) (AskedRun.refuses x os (call .list) (call .request) n w (b .run))
+      let i = with-blank (call .request) (call .message) (call .lent) in
+      let n = tells v os (call .message) (call .request) i ∙ e in
+      goes b x (pictures-still v os (call .message) (call .request) i n) (AskedRun.refuses x os (call .message) (call .request) n w (b .run))
 
 module _ {t : ℕ} {h : Pair Cache} {l : Ledger} {r : Request} (x : Side) (k : Shared r) (lent : ℕ) where
   -- both say yes, and one has the change
@@ -87,19 +89,19 @@ module _ {t : ℕ} {h : Pair Cache} {l : Ledger} {r : Request} (x : Side) (k : S
       goes b (other x) (pictures-next (b .pictures .side (other x)) (zeros lent) [] r (with-blank r [] lent) (shared-floats k))
       (AskedRun.ends x k (zeros lent) [] (b .run))
 
-sends : {t : ℕ} {h : Pair Cache} {l : Ledger} (x : Side) (call : Call) → Sends (call .request) → accepted (step (at x h) call) ≡ true → Played t h l nothing
-    → Played t (put x (step (at x h) call .cache) h) l (taking x (sentBy (step (at x h) call)))
-sends x call k e b =
+sends : {t : ℕ} {h : Pair Cache} {l : Ledger} (x : Side) (call : Call) → Sends (call .request) → accepted (step (at x h) call) ≡ true → Words (sentBy (step (at x h) call)) → Played t h l nothing
+    → Played t (put x (step (at x h) call .cache) h) l (taking x (messageBy (at x h) (step (at x h) call)))
+sends x call k e q b =
     let os = zeros (call .lent) in
     let v = b .pictures .side x in
-    let i = with-blank (call .request) (call .list) (call .lent) in
-    let a = tells v os (call .list) (call .request) i ∙ e in
-    goes b x (pictures-next v os (call .list) (call .request) i (sends-floats k))
-    (rw (← list-sent v os (call .list) k i a) (AskedRun.sends x k os (call .list) a (b .run)))
+    let i = with-blank (call .request) (call .message) (call .lent) in
+    let a = tells v os (call .message) (call .request) i ∙ e in
+    goes b x (pictures-next v os (call .message) (call .request) i (sends-floats k))
+    (rw (message-sent v os (call .message) k i a) (AskedRun.sends x k os (call .message) a (rw (list-sent v os (call .message) k i a) q) (b .run)))
 
-takes : {t : ℕ} {h : Pair Cache} {l : Ledger} (x : Side) (list : List ℕ) → Played t h l (taking x list)
-    → Played t (put (other x) (step (at (other x) h) (asking Take list 0) .cache) h) (hearList list l) nothing
-takes x list b = goes b (other x) (pictures-next (b .pictures .side (other x)) (zeros 0) list Take refl tt) (AskedRun.takes x (zeros 0) list (b .run))
+takes : {t : ℕ} {h : Pair Cache} {l : Ledger} (x : Side) (message : List ℕ) → Played t h l (taking x message)
+    → Played t (put (other x) (step (at (other x) h) (asking Take message 0) .cache) h) (hearMessage message l) nothing
+takes x message b = goes b (other x) (pictures-next (b .pictures .side (other x)) (zeros 0) message Take refl tt) (AskedRun.takes x (zeros 0) message (b .run))
 
 -- ---- the run
 
@@ -125,15 +127,18 @@ changes = record {
       (opened 4 3 small small-fits refl refl))))));
 }
 
--- refused requests, and a list that is sent and taken
+both-words : Words (100 ∷ 200 ∷ [])
+both-words = (lit≤ tt, (lit≤ tt, tt))
+
+-- refused requests, and a message that is sent and taken
 pub shown : Shown
 unfolding computing changes
 shown = record {
   hosts = _;
   ledger = _;
   played =
-      takes one (100 ∷ 200 ∷ [])
-      (sends one (ask Flush) flush refl
+      takes one _
+      (sends one (ask Flush) flush refl both-words
       (local one (ask (Release 100)) (unchanged 100) tt tt
       (refuses two (ask Flush) refl tt
       (refuses one (ask Take) refl tt

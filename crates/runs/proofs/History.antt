@@ -30,22 +30,22 @@ use Rattle.runs.proofs.Read.{evicted-back}
 -- ---- one request
 
 -- the bytes evicted, as the order words tell them, count if the request is accepted
-module _ (ws os list : List ℕ) (r : Request) (v : judgeWords ws ≡ true) (n : ℕ) where
+module _ (ws os message : List ℕ) (r : Request) (v : judgeWords ws ≡ true) (n : ℕ) where
   abbrev evictedBy : Left → ℕ
   evictedBy x = plus (accepts x) n (evictedIn (answerOrders (x .answer)) (x .orders))
 
-  evicted-as : evictedBy (stepWords ws os list r) ≡ plus (accepted (ruled ws os list r v)) n (evictedBytes (ruled ws os list r v .orders))
+  evicted-as : evictedBy (stepWords ws os message r) ≡ plus (accepted (ruled ws os message r v)) n (evictedBytes (ruled ws os message r v .orders))
   evicted-as =
-      ap evictedBy (carried ws os list r v)
-      ∙ stepped (cacheIn ws) (asking r list (length os))
+      ap evictedBy (carried ws os message r v)
+      ∙ stepped (cacheIn ws) (asking r message (length os))
       (λ (o : Outcome). evictedBy (carriedOut (o .answer) o ws os) ≡ plus (accepted o) n (evictedBytes (o .orders)))
-      (λ e. ap (λ (m : ℕ). n + m) (evicted-back (effect (cacheIn ws) list r .orders) os))
+      (λ e. ap (λ (m : ℕ). n + m) (evicted-back (effect (cacheIn ws) message r .orders) os))
       (λ x. refl)
 
 -- ---- a run
 
 abbrev callOf : TableCall → Call
-callOf call = asking (call .request) (call .list) (length (call .orders))
+callOf call = asking (call .request) (call .message) (length (call .orders))
 
 record Same (p : TablePast) (q : Past) : Type 0 where
   pictures : Pictures (p .table) (q .cache)
@@ -56,19 +56,19 @@ record Same (p : TablePast) (q : Past) : Type 0 where
   shrunk : p .shrunk ≡ q .shrunk
 
 goes-on : (p : TablePast) (q : Past) (call : TableCall) → Same p q
-    → Same (addedTo p (call .request) (stepWords (p .table) (call .orders) (call .list) (call .request))) (next q (callOf call))
+    → Same (addedTo p (call .request) (stepWords (p .table) (call .orders) (call .message) (call .request))) (next q (callOf call))
 goes-on p q call k =
     let ws = p .table in
     let os = call .orders in
-    let list = call .list in
+    let message = call .message in
     let r = call .request in
     let v = k .pictures .passes in
     let c = k .pictures .cache in
-    let a = accepts-as ws os list r v in
-    let e = evicted-as ws os list r v (p .evicted) in
+    let a = accepts-as ws os message r v in
+    let e = evicted-as ws os message r v (p .evicted) in
     rw (← c)
     (record {
-      pictures = pictures-after ws os list r v (call .floats);
+      pictures = pictures-after ws os message r v (call .floats);
       brought = rw (a, k .brought);
       grown = rw (a, k .grown);
       evicted = e ∙ rw (k .evicted);

@@ -47,47 +47,47 @@ pictured c rest k f = record { passes = complete c rest k f; cache = cache-back 
 
 -- ---- a request
 
-module _ (ws os list : List ℕ) (r : Request) (v : judgeWords ws ≡ true) where
+module _ (ws os message : List ℕ) (r : Request) (v : judgeWords ws ≡ true) where
   -- the rules' outcome
   abbrev pub ruled : Outcome
-  ruled = step (cacheIn ws) (asking r list (length os))
+  ruled = step (cacheIn ws) (asking r message (length os))
 
-  pub accepts-as : accepts (stepWords ws os list r) ≡ accepted ruled
-  accepts-as = ap isAccepted (same-answer ws os list r v)
+  pub accepts-as : accepts (stepWords ws os message r) ≡ accepted ruled
+  accepts-as = ap isAccepted (same-answer ws os message r v)
 
-  pub pictures-after : FloatsOf r → Pictures (stepWords ws os list r .table) (ruled .cache)
+  pub pictures-after : FloatsOf r → Pictures (stepWords ws os message r .table) (ruled .cache)
   pictures-after f =
       let k = sound ws v .0 in
-      rw (carried ws os list r v)
-      (stepped (cacheIn ws) (asking r list (length os))
+      rw (carried ws os message r v)
+      (stepped (cacheIn ws) (asking r message (length os))
       (λ (o : Outcome). Allowed (o .cache) → FloatsFit (o .cache .settings) → Pictures (carriedOut (o .answer) o ws os .table) (o .cache))
       (λ e i j. pictured _ _ i j)
       (λ x i j. record { passes = v; cache = refl })
-      (step-allowed (cacheIn ws) (asking r list (length os)) k)
-      (step-floats (cacheIn ws) (asking r list (length os)) (k .sound) (good ws v .steady .floats) f))
+      (step-allowed (cacheIn ws) (asking r message (length os)) k)
+      (step-floats (cacheIn ws) (asking r message (length os)) (k .sound) (good ws v .steady .floats) f))
 
-  pub pictures-refused : accepts (stepWords ws os list r) ≡ false → Pictures (stepWords ws os list r .table) (ruled .cache)
+  pub pictures-refused : accepts (stepWords ws os message r) ≡ false → Pictures (stepWords ws os message r .table) (ruled .cache)
   pictures-refused h =
-      rw (carried ws os list r v)
-      (stepped (cacheIn ws) (asking r list (length os))
+      rw (carried ws os message r v)
+      (stepped (cacheIn ws) (asking r message (length os))
       (λ (o : Outcome). accepted o ≡ false → Pictures (carriedOut (o .answer) o ws os .table) (o .cache))
       (λ e i. absurd (true≢false i))
       (λ x i. record { passes = v; cache = refl })
       (sym accepts-as ∙ h))
 
 -- on a table that pictures a cache, as the rules name the request
-module _ {ws : List ℕ} {c : Cache} (k : Pictures ws c) (os list : List ℕ) (r : Request) {call : Call} (e : asking r list (length os) ≡ call) where
-  pub same-step : step (cacheIn ws) (asking r list (length os)) ≡ step c call
+module _ {ws : List ℕ} {c : Cache} (k : Pictures ws c) (os message : List ℕ) (r : Request) {call : Call} (e : asking r message (length os) ≡ call) where
+  pub same-step : step (cacheIn ws) (asking r message (length os)) ≡ step c call
   same-step = rw (k .cache) (ap (step c) e)
 
-  pub tells : accepts (stepWords ws os list r) ≡ accepted (step c call)
-  tells = accepts-as ws os list r (k .passes) ∙ ap accepted same-step
+  pub tells : accepts (stepWords ws os message r) ≡ accepted (step c call)
+  tells = accepts-as ws os message r (k .passes) ∙ ap accepted same-step
 
-  pub pictures-next : FloatsOf r → Pictures (stepWords ws os list r .table) (step c call .cache)
-  pictures-next f = rw (← same-step) (pictures-after ws os list r (k .passes) f)
+  pub pictures-next : FloatsOf r → Pictures (stepWords ws os message r .table) (step c call .cache)
+  pictures-next f = rw (← same-step) (pictures-after ws os message r (k .passes) f)
 
-  pub pictures-still : accepts (stepWords ws os list r) ≡ false → Pictures (stepWords ws os list r .table) (step c call .cache)
-  pictures-still h = rw (← same-step) (pictures-refused ws os list r (k .passes) h)
+  pub pictures-still : accepts (stepWords ws os message r) ≡ false → Pictures (stepWords ws os message r .table) (step c call .cache)
+  pictures-still h = rw (← same-step) (pictures-refused ws os message r (k .passes) h)
 
 -- ---- opening
 

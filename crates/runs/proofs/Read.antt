@@ -44,10 +44,10 @@ writes-dirty x (a ∷ l) w k =
     writes-dirty x l (if not (cleanShareMet x (w .cache)) && dirtyAt (w .cache .rows) a then writeInPlace a w else w)
     (choose (λ (v : Work). Writes (v .orders)) (not (cleanShareMet x (w .cache)) && dirtyAt (w .cache .rows) a) (λ h. writes-give a _ (w .orders) k) (λ h. k))
 
-pub sends-writes : (c : Cache) (list : List ℕ) {r : Request} → Sends r → Writes (effect c list r .orders)
+pub sends-writes : (c : Cache) (message : List ℕ) {r : Request} → Sends r → Writes (effect c message r .orders)
 unfolding effect
-sends-writes c list flush = writes-each (c .rows) (dirtyRising (c .rows))
-sends-writes c list sync = writes-dirty 0 (c .recency) (start c) tt
+sends-writes c message flush = writes-each (c .rows) (dirtyRising (c .rows))
+sends-writes c message sync = writes-dirty 0 (c .recency) (start c) tt
 
 -- ---- read back
 

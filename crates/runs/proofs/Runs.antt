@@ -11,7 +11,7 @@ use lib.ListN.{length, replicate, length-replicate}
 use borrow.Author.Tests.{le-leb}
 use Rattle.settings.specs.declared.Settings.{Settings}
 use Rattle.settings_words.specs.FloatsFit.{FloatsFit}
-use Rattle.rules.proofs.Shown.{both-accept, both-refuse, locals, lists}
+use Rattle.rules.proofs.Shown.{both-accept, both-refuse, locals, changes, flushing, taken, again, syncing, lists}
 use Rattle.rules.specs.Cache.{Cache}
 use Rattle.rules.specs.Cases.{small}
 use Rattle.rules.specs.Hosts.{Run, Pending, settled, asking}
@@ -26,7 +26,7 @@ use Rattle.rules.specs.declared.request.Request.the-variants.{Take}
 use Rattle.layout.specs.Layout.{layoutWords}
 use Rattle.runs.specs.Hosts.{FloatsOf, TableRun}
 use Rattle.cache.specs.Tables.{openWords}
-use Rattle.runs.proofs.Hosts.{list-sent, shared-floats, sends-floats}
+use Rattle.runs.proofs.Hosts.{list-sent, message-sent, shared-floats, sends-floats}
 use Rattle.runs.proofs.Pictured.{Pictures, tells, pictures-next, pictures-still, BothPicture, one-goes, both-fresh}
 
 -- the floats of a run's settings fit the format
@@ -34,10 +34,10 @@ abbrev pub RunFits : {t : ℕ} {h : Pair Cache} {l : Ledger} {p : Pending} → R
 RunFits (Run.opened n m s u h k) = FloatsFit s × FloatsFit u
 RunFits (Run.local x call k r) = FloatsOf (call .request) × RunFits r
 RunFits (Run.refuses x call e r) = RunFits r
-RunFits (Run.begins x k list lent r) = RunFits r
-RunFits (Run.ends x k list lent ok e r) = RunFits r
-RunFits (Run.sends x call k e r) = RunFits r
-RunFits (Run.takes x list lent e r) = RunFits r
+RunFits (Run.begins x k message lent r) = RunFits r
+RunFits (Run.ends x k message lent ok e r) = RunFits r
+RunFits (Run.sends x call k e w r) = RunFits r
+RunFits (Run.takes x message lent e r) = RunFits r
 
 -- two tables that picture the caches, after such a run
 pub record OnTables (t : ℕ) (h : Pair Cache) (l : Ledger) (p : Pending) : Type 0 where
@@ -51,8 +51,8 @@ abbrev pub blank : ℕ → List ℕ
 blank n = replicate n 0
 
 -- a request with so many of them
-pub with-blank : (r : Request) (list : List ℕ) (lent : ℕ) → asking r list (length (blank lent)) ≡ asking r list lent
-with-blank r list lent = ap (asking r list) (length-replicate {A = ℕ} lent 0)
+pub with-blank : (r : Request) (message : List ℕ) (lent : ℕ) → asking r message (length (blank lent)) ≡ asking r message lent
+with-blank r message lent = ap (asking r message) (length-replicate {A = ℕ} lent 0)
 
 -- ---- opening
 
@@ -80,43 +80,42 @@ on-tables (Run.local x call k r) f =
     let w = b .pictures .side x in
     let os = blank (call .lent) in
     let q = call .request in
-    let e = with-blank q (call .list) (call .lent) in
-    goes b x (pictures-next w os (call .list) q e (f .0)) (TableRun.local x os (call .list) q k (f .0) (b .run))
+    let e = with-blank q (call .message) (call .lent) in
+    goes b x (pictures-next w os (call .message) q e (f .0)) (TableRun.local x os (call .message) q k (f .0) (b .run))
 on-tables (Run.refuses x call h r) f =
     let b = on-tables r f in
     let w = b .pictures .side x in
     let os = blank (call .lent) in
     let q = call .request in
-    let e = with-blank q (call .list) (call .lent) in
-    let n = tells w os (call .list) q e ∙ h in
-    goes b x (pictures-still w os (call .list) q e n) (TableRun.refuses x os (call .list) q n (b .run))
-on-tables (Run.begins {r = q} x k list lent r) f =
+    let e = with-blank q (call .message) (call .lent) in
+    let n = tells w os (call .message) q e ∙ h in
+    goes b x (pictures-still w os (call .message) q e n) (TableRun.refuses x os (call .message) q n (b .run))
+on-tables (Run.begins {r = q} x k message lent r) f =
     let b = on-tables r f in
     let w = b .pictures .side x in
     let os = blank lent in
-    let e = with-blank q list lent in
-    goes b x (pictures-next w os list q e (shared-floats k)) (rw (← tells w os list q e) (TableRun.begins x k os list (b .run)))
-on-tables (Run.ends {r = q} x k list lent ok h r) f =
+    let e = with-blank q message lent in
+    goes b x (pictures-next w os message q e (shared-floats k)) (rw (← tells w os message q e) (TableRun.begins x k os message (b .run)))
+on-tables (Run.ends {r = q} x k message lent ok h r) f =
     let b = on-tables r f in
     let w = b .pictures .side (other x) in
     let os = blank lent in
-    let e = with-blank q list lent in
-    goes b (other x) (pictures-next w os list q e (shared-floats k)) (TableRun.ends x k os list ok (tells w os list q e ∙ h) (b .run))
-on-tables (Run.sends x call k h r) f =
+    let e = with-blank q message lent in
+    goes b (other x) (pictures-next w os message q e (shared-floats k)) (TableRun.ends x k os message ok (tells w os message q e ∙ h) (b .run))
+on-tables (Run.sends x call k h q r) f =
     let b = on-tables r f in
     let w = b .pictures .side x in
     let os = blank (call .lent) in
-    let q = call .request in
-    let e = with-blank q (call .list) (call .lent) in
-    let a = tells w os (call .list) q e ∙ h in
-    goes b x (pictures-next w os (call .list) q e (sends-floats k))
-    (rw (← list-sent w os (call .list) k e a) (TableRun.sends x k os (call .list) a (b .run)))
-on-tables (Run.takes x list lent h r) f =
+    let e = with-blank (call .request) (call .message) (call .lent) in
+    let a = tells w os (call .message) (call .request) e ∙ h in
+    goes b x (pictures-next w os (call .message) (call .request) e (sends-floats k))
+    (rw (message-sent w os (call .message) k e a) (TableRun.sends x k os (call .message) a (rw (list-sent w os (call .message) k e a) q) (b .run)))
+on-tables (Run.takes x message lent h r) f =
     let b = on-tables r f in
     let w = b .pictures .side (other x) in
     let os = blank lent in
-    let e = with-blank Take list lent in
-    goes b (other x) (pictures-next w os list Take e tt) (TableRun.takes x os list (tells w os list Take e ∙ h) (b .run))
+    let e = with-blank Take message lent in
+    goes b (other x) (pictures-next w os message Take e tt) (TableRun.takes x os message (tells w os message Take e ∙ h) (b .run))
 
 -- ---- such runs exist
 
@@ -126,5 +125,5 @@ small-fits = record { clean = tt; increase = tt; flash = tt; decrease = tt }
 
 -- the rules' run with every kind of turn in it, on tables
 pub shown : OnTables 1000 (lists .hosts) (lists .ledger) settled
-unfolding lists locals both-refuse both-accept
+unfolding lists syncing again taken flushing changes locals both-refuse both-accept
 shown = on-tables (lists .run) (tt, (small-fits, (tt, (tt, (small-fits, (tt, (tt, (tt, (tt, (tt, (small-fits, small-fits)))))))))))

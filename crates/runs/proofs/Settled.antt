@@ -34,15 +34,15 @@ moves-settings (Moves.ages y m) = moves-settings m
 flash-settings : (x : ℕ) (c : Cache) → flashed x c .settings ≡ c .settings
 flash-settings x c = flash-elim (λ (d : Cache). d .settings ≡ c .settings) x c (λ n h k. refl)
 
-module _ (c : Cache) (lent : ℕ) (list : List ℕ) (k : Sound c) (p : FloatsFit (c .settings)) where
+module _ (c : Cache) (lent : ℕ) (message : List ℕ) (k : Sound c) (p : FloatsFit (c .settings)) where
   kept : {s : Settings} → s ≡ c .settings → FloatsFit s
   kept e = subst FloatsFit (sym e) p
 
-  floats-after : (r : Request) → firstOf (tests c lent list r) ≡ none → FloatsOf r → FloatsFit (effect c list r .cache .settings)
+  floats-after : (r : Request) → firstOf (tests c lent message r) ≡ none → FloatsOf r → FloatsFit (effect c message r .cache .settings)
   unfolding tests effect
   floats-after (Insert a s) h q = kept (moves-settings (room-moves {sets = false} s true (start (flashed s c)) (flash-sound s c k)) ∙ flash-settings s c)
   floats-after (Protect x a s) h q =
-      let f = failed (tests c lent list (Protect x a s)) h in
+      let f = failed (tests c lent message (Protect x a s)) h in
       choose (λ (w : Work). FloatsFit (w .cache .settings)) (isHere (c .rows) a)
       (λ i. kept (moves-settings (count-moves true (start (touch a (protectedFor x) c)) (sound-touch a (protectedFor x) (λ e. refl) c k))))
       (λ i. let m = ready a s c k i (simp i at (f .1 .1 .1 .1 .0)) in
@@ -66,4 +66,4 @@ module _ (c : Cache) (lent : ℕ) (list : List ℕ) (k : Sound c) (p : FloatsFit
 pub step-floats : (c : Cache) (call : Call) → Sound c → FloatsFit (c .settings) → FloatsOf (call .request) → FloatsFit (step c call .cache .settings)
 unfolding refusalOf
 step-floats c call k p q =
-    stepped c call (λ (o : Outcome). FloatsFit (o .cache .settings)) (λ e. floats-after c (call .lent) (call .list) k p (call .request) e q) (λ r. p)
+    stepped c call (λ (o : Outcome). FloatsFit (o .cache .settings)) (λ e. floats-after c (call .lent) (call .message) k p (call .request) e q) (λ r. p)

@@ -16,11 +16,11 @@ use Rattle.layout.specs.Picture.{cacheIn}
 use Rattle.runs.specs.Hosts.{accepts, FloatsOf}
 use Rattle.cache.specs.Tables.{Left, stepWords, reportWords}
 
--- A request with the order slice and the list that are lent with it.
+-- A request with the order slice and the message that are lent with it.
 pub record TableCall : Type 0 where
   pub request : Request
   pub orders : List ℕ
-  pub list : List ℕ
+  pub message : List ℕ
   pub floats : FloatsOf request
 
 -- The bytes of the evict orders among the first n.
@@ -55,7 +55,7 @@ unfoldable pub tablePast : List ℕ → List TableCall → TablePast
 tablePast table [] = record { table = table; brought = 0; grown = 0; evicted = 0; discarded = 0; shrunk = 0 }
 tablePast table (call ∷ earlier) =
     let p = tablePast table earlier in
-    addedTo p (call .request) (stepWords (p .table) (call .orders) (call .list) (call .request))
+    addedTo p (call .request) (stepWords (p .table) (call .orders) (call .message) (call .request))
 
 -- So many held bytes balance: they equal bytes brought in and grown, less bytes evicted, discarded and shrunk.
 abbrev pub Balances : ℕ → TablePast → Type 0

@@ -1,4 +1,4 @@
--- The request that the words name is done by a step with no list; words that name none are refused.
+-- The request that the words name is done by a step with no message; words that name none are refused.
 use mathlib.Core.Path.{refl}
 use borrow.Author.Needs.{needs}
 use Rattle.batch.proofs.one.Statement.{statement}
@@ -41,7 +41,7 @@ same-length-2 : tie.Need-same-length-2
 same-length-2 c = search needs
 
 returns : tie.Need-returns
-returns c = rw (← c .before .before .before .before .before .before .before .before .before .before .before .plain-request .ensures, c .before .before .before .before .before .before .before .before .before .request .given .1) (c .before .before .before .before .step-judged .ensures)
+returns c = rw (← c .before .before .before .before .before .before .before .before .before .before .before .before .plain-request .ensures, c .before .before .before .before .before .before .before .before .before .before .request .given .1) (c .before .before .before .before .step-judged .ensures)
 
 returns-2 : tie.Need-returns-2
 returns-2 c = rw (← c .before .before .plain-request .ensures, c .enum-told .given .1) refl

@@ -12,7 +12,7 @@ judge-requires c κs = search needs
 returns : tie.Need-returns
 returns c =
     let s = c .before .before .before .before in
-    ask-damaged (s .args .table .now) (s .args .list .now) (s .args .lent) (s .args .request) (fails-told (c .before .judge .ensures) (c .if1 .taken))
+    ask-damaged (s .args .table .now) (s .args .message .now) (s .args .lent) (s .args .request) (fails-told (c .before .judge .ensures) (c .if1 .taken))
 
 row-count-requires : tie.Need-row-count-requires
 row-count-requires c κs = good (c .before .before .before .before .args .table .now) (passes-told (c .before .judge .ensures) (c .if1 .left))
@@ -26,7 +26,7 @@ refusal-of-requires c κs = (record { good = good (c .before .before .before .be
 returns-2 : tie.Need-returns-2
 returns-2 c =
     let s = c .before .before .before .before .before .before .before in
-    ask-told (s .args .table .now) (s .args .list .now) (s .args .lent) (s .args .request) (passes-told (c .before .before .before .before .judge .ensures) (c .before .before .before .if1 .left)) (c .refusal-of .ensures)
+    ask-told (s .args .table .now) (s .args .message .now) (s .args .lent) (s .args .request) (passes-told (c .before .before .before .before .judge .ensures) (c .before .before .before .if1 .left)) (c .refusal-of .ensures)
 
 pub ask-spec : {M : Type 1} → statement M
 ask-spec =

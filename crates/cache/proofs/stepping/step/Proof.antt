@@ -13,7 +13,7 @@ same-length c = search needs
 returns : tie.Need-returns
 returns c =
     let s = c .before .before .before .before .before .before in
-    step-damaged (s .args .table .now) (s .args .orders .now) (s .args .list .now) (s .args .request) (fails-told (c .before .judge .ensures) (c .if1 .taken))
+    step-damaged (s .args .table .now) (s .args .orders .now) (s .args .message .now) (s .args .request) (fails-told (c .before .judge .ensures) (c .if1 .taken))
 
 step-judged-requires : tie.Need-step-judged-requires
 step-judged-requires c κs = (passes-told (c .before .before .before .judge .ensures) (c .before .before .if1 .left), tt)

@@ -25,8 +25,8 @@ returns c =
     let s = c .before .before .before .before .before .before .before .before .before in
     let ws = s .args .table .now in
     let os = s .args .orders .now in
-    let list = s .args .list .now in
-    step-left ws os list _ (c .before .before .before .before .before .before .before .before .before .pre .0) (c .before .before .take .ensures os) ∙ ap (stepWords ws os list) (sym (c .before .before .before .before .enum-told .given .1))
+    let message = s .args .message .now in
+    step-left ws os message _ (c .before .before .before .before .before .before .before .before .before .pre .0) (c .before .before .take .ensures os) ∙ ap (stepWords ws os message) (sym (c .before .before .before .before .enum-told .given .1))
 
 row-count-requires : tie.Need-row-count-requires
 row-count-requires c κs = good (c .before .before .before .before .before .args .table .now) (c .before .before .before .before .before .pre .0)
@@ -46,7 +46,7 @@ same-length-2 c = search needs
 returns-2 : tie.Need-returns-2
 returns-2 c =
     let s = c .before .before .before .before .before .before .before .before .before .before .before .before .before in
-    step-not (s .args .table .now) (s .args .orders .now) (s .args .list .now) (s .args .request) (c .before .before .before .before .before .before .before .before .before .before .before .before .before .pre .0) (c .before .before .before .refusal-of .ensures) _ (c .before .verdict .given .1)
+    step-not (s .args .table .now) (s .args .orders .now) (s .args .message .now) (s .args .request) (c .before .before .before .before .before .before .before .before .before .before .before .before .before .pre .0) (c .before .before .before .refusal-of .ensures) _ (c .before .verdict .given .1)
 
 enum-told-2 : tie.Need-enum-told-2
 enum-told-2 c = search needs
@@ -54,7 +54,7 @@ enum-told-2 c = search needs
 carry-out-requires : tie.Need-carry-out-requires
 carry-out-requires c κs =
     let s = c .before .before .before .before .before .before .before .before .before .before .before .before .before .before in (
-      not-refused (s .args .table .now) (s .args .orders .now) (s .args .list .now) (s .args .request) (c .before .before .before .before .before .before .before .before .before .before .before .before .before .before .pre .0) (c .before .before .before .before .refusal-of .ensures) (c .before .before .enum-told2 .given .1),
+      not-refused (s .args .table .now) (s .args .orders .now) (s .args .message .now) (s .args .request) (c .before .before .before .before .before .before .before .before .before .before .before .before .before .before .pre .0) (c .before .before .before .before .refusal-of .ensures) (c .before .before .enum-told2 .given .1),
       (λ e. miss (0 ∷ 1 ∷ 2 ∷ 3 ∷ 4 ∷ 5 ∷ 6 ∷ 7 ∷ 8 ∷ 9 ∷ 11 ∷ []) 10 tt (rw e at (c .before .before .before .before .before .before .before .before .before .before .match .keys2))),
       c .before .before .before .before .before .before .find-named .ensures,
       s .pre .1,
@@ -69,7 +69,7 @@ same-length-4 c = search needs
 returns-3 : tie.Need-returns-3
 returns-3 c =
     let s = c .before .before .before .before .before .before .before .before .before .before .before .before .before .before .before .before .before .before .before in
-    step-did (s .args .table .now) (s .args .orders .now) (s .args .list .now) (s .args .request) (c .before .before .before .before .before .before .before .before .before .before .before .before .before .before .before .before .before .before .before .pre .0) (c .before .before .before .before .before .before .before .before .before .refusal-of .ensures) (c .before .before .before .before .before .before .before .enum-told2 .given .1) (c .before .before .before .before .carry-out .ensures)
+    step-did (s .args .table .now) (s .args .orders .now) (s .args .message .now) (s .args .request) (c .before .before .before .before .before .before .before .before .before .before .before .before .before .before .before .before .before .before .before .pre .0) (c .before .before .before .before .before .before .before .before .before .refusal-of .ensures) (c .before .before .before .before .before .before .before .enum-told2 .given .1) (c .before .before .before .before .carry-out .ensures)
 
 pub step-judged-spec : {M : Type 1} → statement M
 step-judged-spec =

@@ -112,7 +112,7 @@ same-length-2 c = search needs
 
 returns : tie.Need-returns
 unfolding effect
-returns c = gave (cacheIn (c .before .before .before .before .before .before .before .before .before .before .before .before .before .before .args .table .now)) (c .before .before .before .before .before .before .before .before .before .before .before .before .before .before .args .list .now) _ (c .before .before .before .before .before .before .before .before .request .given .1) (c .before .before .before .before .insert .ensures) refl
+returns c = gave (cacheIn (c .before .before .before .before .before .before .before .before .before .before .before .before .before .before .args .table .now)) (c .before .before .before .before .before .before .before .before .before .before .before .before .before .before .args .message .now) _ (c .before .before .before .before .before .before .before .before .request .given .1) (c .before .before .before .before .insert .ensures) refl
 
 same-length-3 : tie.Need-same-length-3
 same-length-3 c = search needs
@@ -122,7 +122,7 @@ same-length-4 c = search needs
 
 returns-2 : tie.Need-returns-2
 unfolding effect
-returns-2 c = gave (cacheIn (c .before .before .before .before .before .before .before .before .before .before .before .before .before .before .args .table .now)) (c .before .before .before .before .before .before .before .before .before .before .before .before .before .before .args .list .now) _ (c .before .before .before .before .before .before .before .before .request2 .given .1) (c .before .before .before .before .protect .ensures) refl
+returns-2 c = gave (cacheIn (c .before .before .before .before .before .before .before .before .before .before .before .before .before .before .args .table .now)) (c .before .before .before .before .before .before .before .before .before .before .before .before .before .before .args .message .now) _ (c .before .before .before .before .before .before .before .before .request2 .given .1) (c .before .before .before .before .protect .ensures) refl
 
 same-length-5 : tie.Need-same-length-5
 same-length-5 c = search needs
@@ -132,7 +132,7 @@ same-length-6 c = search needs
 
 returns-3 : tie.Need-returns-3
 unfolding effect
-returns-3 c = gave (cacheIn (c .before .before .before .before .before .before .before .before .before .before .before .before .before .before .args .table .now)) (c .before .before .before .before .before .before .before .before .before .before .before .before .before .before .args .list .now) _ (c .before .before .before .before .before .before .before .before .request3 .given .1) (c .before .before .before .before .release .ensures) refl
+returns-3 c = gave (cacheIn (c .before .before .before .before .before .before .before .before .before .before .before .before .before .before .args .table .now)) (c .before .before .before .before .before .before .before .before .before .before .before .before .before .before .args .message .now) _ (c .before .before .before .before .before .before .before .before .request3 .given .1) (c .before .before .before .before .release .ensures) refl
 
 same-length-7 : tie.Need-same-length-7
 same-length-7 c = search needs
@@ -142,35 +142,35 @@ same-length-8 c = search needs
 
 returns-4 : tie.Need-returns-4
 unfolding effect
-returns-4 c = gave (cacheIn (c .before .before .before .before .before .before .before .before .before .before .before .before .before .before .args .table .now)) (c .before .before .before .before .before .before .before .before .before .before .before .before .before .before .args .list .now) _ (c .before .before .before .before .before .before .before .before .request4 .given .1) (c .before .before .before .before .release-changed .ensures) refl
+returns-4 c = gave (cacheIn (c .before .before .before .before .before .before .before .before .before .before .before .before .before .before .args .table .now)) (c .before .before .before .before .before .before .before .before .before .before .before .before .before .before .args .message .now) _ (c .before .before .before .before .before .before .before .before .request4 .given .1) (c .before .before .before .before .release-changed .ensures) refl
 
 same-length-9 : tie.Need-same-length-9
 same-length-9 c = search needs
 
 returns-5 : tie.Need-returns-5
 unfolding effect
-returns-5 c = gave-none (cacheIn (c .before .before .before .before .before .before .before .before .before .before .before .args .table .now)) (c .before .before .before .before .before .before .before .before .before .before .before .args .list .now) _ (c .before .before .before .before .before .request5 .given .1) (c .before .before .pin .ensures) refl
+returns-5 c = gave-none (cacheIn (c .before .before .before .before .before .before .before .before .before .before .before .args .table .now)) (c .before .before .before .before .before .before .before .before .before .before .before .args .message .now) _ (c .before .before .before .before .before .request5 .given .1) (c .before .before .pin .ensures) refl
 
 same-length-10 : tie.Need-same-length-10
 same-length-10 c = search needs
 
 returns-6 : tie.Need-returns-6
 unfolding effect
-returns-6 c = gave-none (cacheIn (c .before .before .before .before .before .before .before .before .before .before .before .args .table .now)) (c .before .before .before .before .before .before .before .before .before .before .before .args .list .now) _ (c .before .before .before .before .before .request6 .given .1) (c .before .before .unpin .ensures) refl
+returns-6 c = gave-none (cacheIn (c .before .before .before .before .before .before .before .before .before .before .before .args .table .now)) (c .before .before .before .before .before .before .before .before .before .before .before .args .message .now) _ (c .before .before .before .before .before .request6 .given .1) (c .before .before .unpin .ensures) refl
 
 same-length-11 : tie.Need-same-length-11
 same-length-11 c = search needs
 
 returns-7 : tie.Need-returns-7
 unfolding effect
-returns-7 c = gave-none (cacheIn (c .before .before .before .before .before .before .before .before .before .before .before .args .table .now)) (c .before .before .before .before .before .before .before .before .before .before .before .args .list .now) _ (c .before .before .before .before .before .request7 .given .1) (c .before .before .resize .ensures) refl
+returns-7 c = gave-none (cacheIn (c .before .before .before .before .before .before .before .before .before .before .before .args .table .now)) (c .before .before .before .before .before .before .before .before .before .before .before .args .message .now) _ (c .before .before .before .before .before .request7 .given .1) (c .before .before .resize .ensures) refl
 
 same-length-12 : tie.Need-same-length-12
 same-length-12 c = search needs
 
 returns-8 : tie.Need-returns-8
 unfolding effect
-returns-8 c = gave-none (cacheIn (c .before .before .before .before .before .before .before .before .before .before .before .args .table .now)) (c .before .before .before .before .before .before .before .before .before .before .before .args .list .now) _ (c .before .before .before .before .before .request8 .given .1) (c .before .before .discard .ensures) refl
+returns-8 c = gave-none (cacheIn (c .before .before .before .before .before .before .before .before .before .before .before .args .table .now)) (c .before .before .before .before .before .before .before .before .before .before .before .args .message .now) _ (c .before .before .before .before .before .request8 .given .1) (c .before .before .discard .ensures) refl
 
 same-length-13 : tie.Need-same-length-13
 same-length-13 c = search needs
@@ -180,7 +180,7 @@ same-length-14 c = search needs
 
 returns-9 : tie.Need-returns-9
 unfolding effect
-returns-9 c = gave (cacheIn (c .before .before .before .before .before .before .before .before .before .before .before .before .before .args .table .now)) (c .before .before .before .before .before .before .before .before .before .before .before .before .before .args .list .now) _ (c .before .before .before .before .before .before .before .enum-told .given .1) (c .before .before .before .before .flush .ensures) refl
+returns-9 c = gave (cacheIn (c .before .before .before .before .before .before .before .before .before .before .before .before .before .args .table .now)) (c .before .before .before .before .before .before .before .before .before .before .before .before .before .args .message .now) _ (c .before .before .before .before .before .before .before .enum-told .given .1) (c .before .before .before .before .flush .ensures) refl
 
 same-length-15 : tie.Need-same-length-15
 same-length-15 c = search needs
@@ -190,7 +190,7 @@ same-length-16 c = search needs
 
 returns-10 : tie.Need-returns-10
 unfolding effect
-returns-10 c = gave (cacheIn (c .before .before .before .before .before .before .before .before .before .before .before .before .before .args .table .now)) (c .before .before .before .before .before .before .before .before .before .before .before .before .before .args .list .now) _ (c .before .before .before .before .before .before .before .enum-told2 .given .1) (c .before .before .before .before .sync .ensures) refl
+returns-10 c = gave (cacheIn (c .before .before .before .before .before .before .before .before .before .before .before .before .before .args .table .now)) (c .before .before .before .before .before .before .before .before .before .before .before .before .before .args .message .now) _ (c .before .before .before .before .before .before .before .enum-told2 .given .1) (c .before .before .before .before .sync .ensures) refl
 
 returns-11 : tie.Need-returns-11
 returns-11 c = absurd (c .before .before .before .before .before .before .pre .1 (c .enum-told3 .given .1))
@@ -203,7 +203,7 @@ same-length-18 c = search needs
 
 returns-12 : tie.Need-returns-12
 unfolding effect
-returns-12 c = gave (cacheIn (c .before .before .before .before .before .before .before .before .before .before .before .before .before .before .args .table .now)) (c .before .before .before .before .before .before .before .before .before .before .before .before .before .before .args .list .now) _ (c .before .before .before .before .before .before .before .before .request9 .given .1) (c .before .before .before .before .configure .ensures) refl
+returns-12 c = gave (cacheIn (c .before .before .before .before .before .before .before .before .before .before .before .before .before .before .args .table .now)) (c .before .before .before .before .before .before .before .before .before .before .before .before .before .before .args .message .now) _ (c .before .before .before .before .before .before .before .before .request9 .given .1) (c .before .before .before .before .configure .ensures) refl
 
 pub carry-out-spec : {M : Type 1} → statement M
 carry-out-spec =
