@@ -83,7 +83,7 @@ fn p10(table: &mut Table, orders: &mut Orders) {
     print::text(b"P10\n");
     open(table, ROWS, Mode::Standby, default_threshold(), small());
     insert(table, orders, 100, 600);
-    take(table, orders, 100, 100);
+    take(table, orders, 1, 100, 100);
     insert(table, orders, u64::MAX, 0);
     report(table);
 }
@@ -97,6 +97,18 @@ fn p11(table: &mut Table, orders: &mut Orders) {
     flush(table, orders);
     insert(table, orders, 300, 100);
     report(table);
+}
+
+// A list is taken by its message, once.
+fn messages(table: &mut Table, orders: &mut Orders) {
+    print::text(b"messages\n");
+    open(table, ROWS, Mode::Standby, default_threshold(), small());
+    insert(table, orders, 100, 600);
+    insert(table, orders, 200, 300);
+    take(table, orders, 2, 100, 200);
+    take(table, orders, 1, 100, 200);
+    report(table);
+    take(table, orders, 1, 100, 200);
 }
 
 // Epochs of 100 accesses. The first uses 100 once; all other accesses are to 200, which is held when
@@ -135,6 +147,7 @@ fn main() {
     p4(&mut table, &mut orders);
     p9(&mut table, &mut orders);
     p10(&mut table, &mut orders);
+    messages(&mut table, &mut orders);
     p11(&mut table, &mut orders);
     case_12(&mut table, &mut orders);
 }

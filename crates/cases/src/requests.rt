@@ -71,11 +71,14 @@ pub fn flush(table: &mut Table, orders: &mut Orders) {
     ask(table, orders, Request::Flush);
 }
 
-// A list of two addresses.
-pub fn take(table: &mut Table, orders: &mut Orders, first: u64, second: u64) {
-    print::line(b"take ", first, second);
+// The message of a list of two addresses.
+pub fn take(table: &mut Table, orders: &mut Orders, number: u64, first: u64, second: u64) {
+    print::number(b"take message ", number);
+    print::line(b": ", first, second);
+    let mut message = [0u8; 41];
     let list = [first, second];
-    let answer = cache::step(table, orders, &list, Request::Take);
+    cache::write_message(&mut message, number, &list);
+    let answer = cache::step(table, orders, &message, Request::Take);
     print::answer(orders, answer);
 }
 
@@ -97,6 +100,7 @@ fn figures(r: Report) {
     print::number(b" dirty ", r.dirty);
     print::number(b" maximum ", r.maximum);
     print::number(b" count ", r.count);
+    print::number(b" next ", r.next);
     if r.due {
         print::text(b" due\n");
     } else {

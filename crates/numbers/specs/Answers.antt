@@ -1,18 +1,21 @@
 -- What a host is answered, as numbers.
 use Rattle.settings_words.specs.Words.{flagWord}
-use Rattle.rules.specs.Answers.{answerNumber, answerField, answerOrders, verdictNumber, verdictField}
+use Rattle.rules.specs.Answers.{refusalNumber, answerNumber, answerField, answerOrders, verdictNumber, verdictField}
 use Rattle.rules.specs.declared.answer.Answer.{Answer}
 use Rattle.rules.specs.declared.answer.Verdict.{Verdict}
 use Rattle.rules.specs.declared.report.Report.{Report}
+use Rattle.message.specs.declared.write.Written.{Written}
+use Rattle.message.specs.declared.write.Written.the-variants.{Bytes, Refused}
 use Rattle.numbers.specs.declared.raw.RawAnswer.{RawAnswer}
 use Rattle.numbers.specs.declared.raw.RawFigures.{RawFigures}
 use Rattle.numbers.specs.declared.raw.RawVerdict.{RawVerdict}
+use Rattle.numbers.specs.declared.raw.RawWritten.{RawWritten}
 
--- An answer in document 01's numbering.
+-- An answer in the documents' numbering.
 abbrev pub answerNumbers : Answer → RawAnswer
 answerNumbers a = record { number = answerNumber a; field = answerField a; orders = answerOrders a }
 
--- A verdict in document 01's numbering.
+-- A verdict in the documents' numbering.
 abbrev pub verdictNumbers : Verdict → RawVerdict
 verdictNumbers v = record { number = verdictNumber v; field = verdictField v }
 
@@ -27,5 +30,11 @@ figureNumbers a report = record {
   clean = report .clean;
   count = report .count;
   due = flagWord (report .due);
+  next = report .next;
   totals = report .totals;
 }
+
+-- How many bytes a message has that was written, or why it was not.
+abbrev pub writtenNumbers : Written → RawWritten
+writtenNumbers (Bytes n) = record { number = 0; bytes = n }
+writtenNumbers (Refused r) = record { number = refusalNumber r; bytes = 0 }

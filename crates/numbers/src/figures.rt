@@ -22,6 +22,7 @@ pub fn figures_of(answer: Answer, report: Report) -> RawFigures
         clean: report.clean,
         count: report.count,
         due: flag_word(due),
+        next: report.next,
         totals,
     }
 }

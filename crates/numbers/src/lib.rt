@@ -6,9 +6,11 @@
 //     answer     an answer as numbers
 //     verdict    a verdict as numbers
 //     figures    a report as numbers
+//     writing    what writing a message came to, as numbers
 pub mod answer;
 pub mod figures;
 pub mod raw;
 pub mod request;
 pub mod setting;
 pub mod verdict;
+pub mod writing;

@@ -96,5 +96,13 @@ pub struct RawFigures {
     pub clean: u64,
     pub count: u64,
     pub due: u64,
+    pub next: u64,
     pub totals: [u64; 11],
+}
+
+// struct speldervacht_written
+#[repr(C)]
+pub struct RawWritten {
+    pub number: u64,
+    pub bytes: u64,
 }

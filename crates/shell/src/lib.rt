@@ -21,12 +21,12 @@ use small_setup::TABLE_WORDS;
 use small_setup::Table;
 use small_setup::small;
 
-// Does a request that has no list, and prints what it gives.
+// Does a request that has no message, and prints what it gives.
 pub fn ask(table: &mut Table, orders: &mut Orders, request: Request)
     ensures { λ _. ⌜ now (table .exit) ≡ stepWords (now (table .entry)) (now (orders .entry)) [] request .table ⌝ }
     ensures { λ _. ⌜ now (orders .exit) ≡ stepWords (now (table .entry)) (now (orders .entry)) [] request .orders ⌝ }
 {
-    let none = [0u64; 0];
+    let none = [0u8; 0];
     let answer = cache::step(table, orders, &none, request);
     print::answer(orders, answer);
 }

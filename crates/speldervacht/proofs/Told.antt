@@ -24,11 +24,11 @@ same-numbers : (a : Answer) → verdictNumbers (verdictIn a) ≡ toldBy (answerN
 same-numbers (Accepted n) = refl
 same-numbers (Refused r) = refl
 
-module _ (table orders list : List ℕ) where
-  asked-step : (q : Asked) → verdictNumbers (askAsked table (length orders) list q) ≡ toldBy (leftNumbers (stepAsked table orders list q) .answer)
+module _ (table orders message : List ℕ) where
+  asked-step : (q : Asked) → verdictNumbers (askAsked table (length orders) message q) ≡ toldBy (leftNumbers (stepAsked table orders message q) .answer)
   asked-step Unknown = refl
-  asked-step (Known r) = ap verdictNumbers (ask-step table orders list r) ∙ same-numbers (stepAsked table orders list (Known r) .answer)
+  asked-step (Known r) = ap verdictNumbers (ask-step table orders message r) ∙ same-numbers (stepAsked table orders message (Known r) .answer)
 
-  pub told-before : (w : RawRequest) → askNumbers table (length orders) list w ≡ toldBy (stepNumbers table orders list w .answer)
+  pub told-before : (w : RawRequest) → askNumbers table (length orders) message w ≡ toldBy (stepNumbers table orders message w .answer)
   unfolding askNumbers stepNumbers
   told-before w = asked-step (askedOfRaw w)

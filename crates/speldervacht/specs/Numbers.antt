@@ -1,4 +1,4 @@
--- The five functions over numbers: what each answers and leaves, on any input.
+-- The six functions over numbers: what each answers and leaves, on any input.
 use Prim.Native.Nat.{ℕ}
 use mathlib.Core.List.{List}
 use mathlib.Core.Option.{Option, Option·getD}
@@ -23,7 +23,8 @@ use Rattle.batch.specs.Batch.{After, batchWords}
 use Rattle.batch.specs.declared.Batched.{Batched}
 use Rattle.cache.specs.Asked.{askWords}
 use Rattle.cache.specs.Tables.{Left, left, stepWords, Opened, openedWith, reportWords}
-use Rattle.numbers.specs.Answers.{answerNumbers, verdictNumbers, figureNumbers}
+use Rattle.message.specs.Writes.{Wrote, writeWords}
+use Rattle.numbers.specs.Answers.{answerNumbers, verdictNumbers, figureNumbers, writtenNumbers}
 use Rattle.numbers.specs.Meanings.{modeOfRaw, settingsOfRaw, askedOfRaw}
 use Rattle.numbers.specs.declared.raw.RawAnswer.{RawAnswer}
 use Rattle.numbers.specs.declared.raw.RawBatched.{RawBatched}
@@ -31,6 +32,7 @@ use Rattle.numbers.specs.declared.raw.RawFigures.{RawFigures}
 use Rattle.numbers.specs.declared.raw.RawRequest.{RawRequest}
 use Rattle.numbers.specs.declared.raw.RawSettings.{RawSettings}
 use Rattle.numbers.specs.declared.raw.RawVerdict.{RawVerdict}
+use Rattle.numbers.specs.declared.raw.RawWritten.{RawWritten}
 use Rattle.numbers.specs.declared.request.Asked.{Asked}
 use Rattle.numbers.specs.declared.request.Asked.the-variants.{Known, Unknown}
 
@@ -73,14 +75,14 @@ unknownRefusal table = if judgeWords table then refusal.Mode else refusal.Table
 
 -- By `stepWords` of crate cache; a request of no known kind changes no word.
 abbrev pub stepAsked : List ℕ → List ℕ → List ℕ → Asked → Left
-stepAsked table orders list Unknown = left (Refused (unknownRefusal table)) table orders
-stepAsked table orders list (Known r) = stepWords table orders list r
+stepAsked table orders message Unknown = left (Refused (unknownRefusal table)) table orders
+stepAsked table orders message (Known r) = stepWords table orders message r
 
 abbrev pub leftNumbers : Left → AfterStep
 leftNumbers x = afterStep (answerNumbers (x .answer)) (x .table) (x .orders)
 
 unfoldable pub stepNumbers : List ℕ → List ℕ → List ℕ → RawRequest → AfterStep
-stepNumbers table orders list w = leftNumbers (stepAsked table orders list (askedOfRaw w))
+stepNumbers table orders message w = leftNumbers (stepAsked table orders message (askedOfRaw w))
 
 -- ---- a batch
 
@@ -94,7 +96,7 @@ pub record AfterBatch : Type 0 where
 abbrev pub afterBatch : RawBatched → List ℕ → List ℕ → List ℕ → AfterBatch
 afterBatch b table orders answers = record { answer = b; table = table; orders = orders; answers = answers }
 
--- In document 01's numbering: 0 if every request was answered.
+-- In the documents' numbering: 0 if every request was answered.
 abbrev pub batchedNumbers : Batched → RawBatched
 batchedNumbers b = record { number = verdictNumber (b .verdict); done = b .done; orders = b .orders }
 
@@ -109,14 +111,31 @@ batchNumbers table orders requests answers = afterNumbers (batchWords table orde
 
 -- By `askWords` of crate cache; a request of no known kind as a step answers it.
 abbrev pub askAsked : List ℕ → ℕ → List ℕ → Asked → Verdict
-askAsked table lent list Unknown = verdict.Refused (unknownRefusal table)
-askAsked table lent list (Known r) = askWords table lent list r
+askAsked table lent message Unknown = verdict.Refused (unknownRefusal table)
+askAsked table lent message (Known r) = askWords table lent message r
 
 unfoldable pub askNumbers : List ℕ → ℕ → List ℕ → RawRequest → RawVerdict
-askNumbers table lent list w = verdictNumbers (askAsked table lent list (askedOfRaw w))
+askNumbers table lent message w = verdictNumbers (askAsked table lent message (askedOfRaw w))
 
 -- ---- the report
 
 -- 0 and the figures, or 1 and zeros.
 unfoldable pub reportNumbers : List ℕ → RawFigures
 reportNumbers table = let x = reportWords table in figureNumbers (x .answer) (x .report)
+
+-- ---- writing a message
+
+-- The answer, and the bytes lent after it.
+pub record AfterWriting : Type 0 where
+  pub answer : RawWritten
+  pub bytes : List ℕ
+
+abbrev pub afterWriting : RawWritten → List ℕ → AfterWriting
+afterWriting a bytes = record { answer = a; bytes = bytes }
+
+abbrev pub wroteNumbers : Wrote → AfterWriting
+wroteNumbers x = afterWriting (writtenNumbers (x .answer)) (x .bytes)
+
+-- By `writeWords` of crate message.
+unfoldable pub writeNumbers : List ℕ → ℕ → List ℕ → AfterWriting
+writeNumbers bytes number list = wroteNumbers (writeWords bytes number list)

@@ -1,11 +1,11 @@
-// The cache for C: five functions, which include/speldervacht.h declares and explains.
+// The cache for C: six functions, which include/speldervacht.h declares and explains.
 //
-// The host lends the table, the words for orders, the list, and a batch's requests and answers, each as a pointer and a length. All
-// else is numbers and structs of numbers. Each function answers whatever the numbers and words are.
+// The host lends the table, the words for orders, a message's bytes, a list to write, and a batch's requests and answers, each as a
+// pointer and a length. All else is numbers and structs of numbers. Each function answers whatever the numbers, words and bytes are.
 ghost use mathlib.Core.Path.{_≡_};
 ghost use Rattle.cache.specs.Tables.{opened};
 ghost use Rattle.numbers.specs.Meanings.{modeOfRaw};
-ghost use Rattle.speldervacht.specs.Numbers.{openIn, afterOpen, openNumbers, unknownRefusal, afterStep, stepNumbers, batchedNumbers, afterBatch, batchNumbers, askNumbers, reportNumbers};
+ghost use Rattle.speldervacht.specs.Numbers.{openIn, afterOpen, openNumbers, unknownRefusal, afterStep, stepNumbers, batchedNumbers, afterBatch, batchNumbers, askNumbers, reportNumbers, afterWriting, writeNumbers};
 use batch::Batched;
 use batch::batch;
 use judge::judge;
@@ -17,10 +17,12 @@ use numbers::raw::RawFigures;
 use numbers::raw::RawRequest;
 use numbers::raw::RawSettings;
 use numbers::raw::RawVerdict;
+use numbers::raw::RawWritten;
 use numbers::request::Asked;
 use numbers::request::request_of;
 use numbers::setting::settings_of;
 use numbers::verdict::verdict_of;
+use numbers::writing::written_of;
 use rules::answer::Answer;
 use rules::answer::Refusal;
 use rules::answer::Verdict;
@@ -69,13 +71,13 @@ fn unknown_refusal(table: &[u64]) -> Refusal
 pub extern "C" fn speldervacht_step(
     table: &mut [u64],
     orders: &mut [u64],
-    list: &[u64],
+    message: &[u8],
     request: RawRequest,
 ) -> RawAnswer
-    ensures { λ r. ⌜ afterStep r (now (table .exit)) (now (orders .exit)) ≡ stepNumbers (now (table .entry)) (now (orders .entry)) (now (list .entry)) request ⌝ }
+    ensures { λ r. ⌜ afterStep r (now (table .exit)) (now (orders .exit)) ≡ stepNumbers (now (table .entry)) (now (orders .entry)) (now (message .entry)) request ⌝ }
 {
     match request_of(request) {
-        Asked::Known(known) => answer_of(cache::step(table, orders, list, known)),
+        Asked::Known(known) => answer_of(cache::step(table, orders, message, known)),
         Asked::Unknown => answer_of(Answer::Refused(unknown_refusal(table))),
     }
 }
@@ -110,13 +112,13 @@ pub extern "C" fn speldervacht_batch(
 pub extern "C" fn speldervacht_ask(
     table: &[u64],
     lent: usize,
-    list: &[u64],
+    message: &[u8],
     request: RawRequest,
 ) -> RawVerdict
-    ensures { λ r. ⌜ r ≡ askNumbers (now (table .entry)) lent (now (list .entry)) request ⌝ }
+    ensures { λ r. ⌜ r ≡ askNumbers (now (table .entry)) lent (now (message .entry)) request ⌝ }
 {
     match request_of(request) {
-        Asked::Known(known) => verdict_of(cache::ask(table, lent, list, known)),
+        Asked::Known(known) => verdict_of(cache::ask(table, lent, message, known)),
         Asked::Unknown => verdict_of(Verdict::Refused(unknown_refusal(table))),
     }
 }
@@ -130,4 +132,16 @@ pub extern "C" fn speldervacht_report(table: &[u64]) -> RawFigures
     let answer = x.answer;
     let report = x.report;
     figures_of(answer, report)
+}
+
+// Writes the message of a list with its number.
+#[no_mangle]
+pub extern "C" fn speldervacht_write_message(
+    bytes: &mut [u8],
+    number: u64,
+    list: &[u64],
+) -> RawWritten
+    ensures { λ r. ⌜ afterWriting r (now (bytes .exit)) ≡ writeNumbers (now (bytes .entry)) number (now (list .entry)) ⌝ }
+{
+    written_of(cache::write_message(bytes, number, list))
 }
