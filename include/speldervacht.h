@@ -9,8 +9,8 @@
  * releases it afterwards; if the record is not in the cache, protecting it gives an order to load
  * it. A held or pinned entry stays. All others stand in the recency list, from which room is made:
  * clean entries are evicted, the oldest first, and a cache that is alone writes dirty ones before. A
- * lead writes at a flush or sync only and tells its standby by a list, so that both know the same
- * dirty records. docs/RULES.md has each rule.
+ * lead writes at a flush or sync only and sends its standby a list of what it wrote, as a numbered
+ * message, so that both know the same dirty records. docs/RULES.md has each rule.
  *
  * Two words have two senses. An entry is held while readers or a writer hold it, between protect and
  * release; held bytes are the sizes of all entries, held or not. An entry is clean if it is not
@@ -18,10 +18,10 @@
  *
  * A lead and a standby have the same dirty records at the same sizes, and the same byte count, if
  * both are opened with the same threshold, both get every insert, changed release, resize and
- * discard before the next one, the standby takes each list before the next list or change, and no
+ * discard before the next one, the standby takes each message before the next list or change, and no
  * such change is refused by only one of them. So the host asks both about a change (speldervacht_ask),
  * and does it at both if both would accept it; a table gets no other request between its yes and the
- * doing. If one would answer NO_ROW, the lead flushes, the standby takes the list, and the host asks
+ * doing. If one would answer NO_ROW, the lead flushes, the standby takes the message, and the host asks
  * again; at NOT_IN_CACHE, HELD, NOT_HELD and PIN_FORBIDS the entry is protected, released or
  * unpinned there first. docs/RULES.md, "A change that one of them refuses", has an example and each
  * number.
@@ -35,7 +35,7 @@
  *   record. After any release the record may be gone. An insert's orders never name the new record,
  *   whose bytes come into memory after them.
  * - A protect names the record's size, so the host keeps all sizes outside the cache.
- * - A lead sends its list when the disk has what was written.
+ * - A lead sends its message when the disk has what was written.
  * - Many requests at once, as those of a tick or those that a standby has yet to catch up with, may be
  *   one batch (speldervacht_batch): the table is judged once for all of them, and judging is most of
  *   what a small request costs. Their orders are carried out one request's after the other's.
@@ -45,8 +45,9 @@
  *
  *   table    uint64_t[SPELDERVACHT_TABLE_WORDS(rows)]    one cache, from one call to the next
  *   orders   uint64_t[SPELDERVACHT_ORDER_WORDS(rows)]    what a request tells the host to do
- *   list     const uint64_t[]                            addresses, for a standby's take; those that
- *                                                        are sent have up to SPELDERVACHT_LIST_WORDS(rows)
+ *   message  uint8_t[SPELDERVACHT_MESSAGE_BYTES(count)]  a list of so many addresses: written for a
+ *                                                        lead, read by a standby's take
+ *   list     const uint64_t[count]                       the addresses of a message to be written
  *   requests const uint64_t[SPELDERVACHT_REQUEST_WORDS(requests)]    those of a batch
  *   answers  uint64_t[SPELDERVACHT_ANSWER_WORDS(requests)]           what each of these is answered
  *
@@ -61,24 +62,39 @@
  *   5          accesses in this epoch
  *   6          hits in this epoch
  *   7          bytes made dirty since the last list
- *   8 .. 28    settings
- *   29         n rows of 6 words: address, size, dirty, idle count, pinned, hold
- *   29 + 6 n   recency run: row numbers from the oldest entry to the newest, then all ones
- *   29 + 7 n   address run: row numbers of the entries by rising address, then all ones
- *   29 + 8 n   the end; words past it are never touched
+ *   8          number of the next message, 0 if none is left
+ *   9 .. 29    settings
+ *   30         n rows of 6 words: address, size, dirty, idle count, pinned, hold
+ *   30 + 6 n   recency run: row numbers from the oldest entry to the newest, then all ones
+ *   30 + 7 n   address run: row numbers of the entries by rising address, then all ones
+ *   30 + 8 n   the end; words past it are never touched
  *
  * Only the library writes to an open table. There are no pointers in it: between calls the host may
  * read, copy, move or store it, and go on with a copy. A table whose words picture no cache is
- * answered SPELDERVACHT_BAD_TABLE by every call but the opening.
+ * answered SPELDERVACHT_BAD_TABLE by every call that gets a table but the opening.
  *
- * Every call ends with an answer, whatever the words and numbers are. A refusal gives no orders and
- * changes no word of the table or of the orders; if several reasons apply, the lowest number is
- * given.
+ * A message, with c addresses. Its fields are a tag of one byte, a length of two and a value of that
+ * length; numbers have the high byte first:
  *
- * The pointers: each is aligned for uint64_t and points to at least as many words as its length
- * says. NULL goes with the length 0. What is lent for one call must not overlap. Too short a table
- * is refused with 1, too few order words with 2. Calls on different tables may run at the same time;
- * calls on one table may not, unless all of them ask or report.
+ *   byte
+ *   0          01 00 08, and 8 bytes: the list's number
+ *   11         02 00 02, and 2 bytes: c
+ *   16 + 11 i  03 00 08, and 8 bytes: address i, for i from 0 to c - 1
+ *   16 + 11 c  09 00 00
+ *   19 + 11 c  the end
+ *
+ * One numbered list has one message, and no message is the beginning of another: so a part of one is
+ * never taken for a shorter list. The numbers rise by one from 1. docs/MESSAGE.md has examples.
+ *
+ * Every call ends with an answer, whatever the words, bytes and numbers are. A refusal gives no orders
+ * and changes nothing that was lent. If several reasons apply, the lowest number is given, but for
+ * take, which is judged in this order: 1 and 5; the message's bytes, 15 or 14; its number, 16; its
+ * addresses, 3 and 13.
+ *
+ * The pointers: each points to at least as many words or bytes as its length says, and is aligned for
+ * uint64_t if these are words. NULL goes with the length 0. What is lent for one call must not overlap.
+ * Too short a table is refused with 1, too few order words with 2. Calls on different tables may run at
+ * the same time; calls on one table may not, unless all of them ask or report.
  *
  * A first cache:
  *
@@ -112,17 +128,19 @@ extern "C" {
 /* ---- version, of the header and the library; a table's version is its layout's and counts apart */
 
 #define SPELDERVACHT_VERSION_MAJOR 0
-#define SPELDERVACHT_VERSION_MINOR 1
-#define SPELDERVACHT_VERSION_PATCH 1
-#define SPELDERVACHT_VERSION "0.1.1"
+#define SPELDERVACHT_VERSION_MINOR 2
+#define SPELDERVACHT_VERSION_PATCH 0
+#define SPELDERVACHT_VERSION "0.2.0"
 
 /* ---- sizes and limits */
 
 /* The words of a table, and of the orders that one request may give. */
-#define SPELDERVACHT_TABLE_WORDS(rows) (29 + 8 * (size_t)(rows))
+#define SPELDERVACHT_TABLE_WORDS(rows) (30 + 8 * (size_t)(rows))
 #define SPELDERVACHT_ORDER_WORDS(rows) (3 * (2 * (size_t)(rows) + 1))
 /* The most addresses of a list that a lead with so many rows sends, or a standby with so many takes. */
 #define SPELDERVACHT_LIST_WORDS(rows) ((size_t)(rows))
+/* The bytes of a message with so many addresses. */
+#define SPELDERVACHT_MESSAGE_BYTES(count) (19 + 11 * (size_t)(count))
 /* The words of so many requests in a batch, three each: kind, address, size; and of their answers, two
  * each: number, orders given. */
 #define SPELDERVACHT_REQUEST_WORDS(requests) (3 * (size_t)(requests))
@@ -136,6 +154,8 @@ extern "C" {
 #define SPELDERVACHT_LARGEST_ENTRY UINT64_C(134217728)
 /* Readers of one entry: up to this. */
 #define SPELDERVACHT_MOST_READERS 65535
+/* Addresses of one message: up to this. */
+#define SPELDERVACHT_MOST_LISTED 65535
 /* The one number that is no address. */
 #define SPELDERVACHT_NO_ADDRESS UINT64_MAX
 /* The dirty-byte threshold: 1 to the largest, in bytes. */
@@ -158,7 +178,7 @@ extern "C" {
 enum speldervacht_mode {
     SPELDERVACHT_ALONE = 0,   /* the one cache of its world; writes as room is made */
     SPELDERVACHT_LEAD = 1,    /* writes at flush and sync alone, and sends lists to the standby */
-    SPELDERVACHT_STANDBY = 2  /* never writes; takes the lead's lists */
+    SPELDERVACHT_STANDBY = 2  /* never writes; takes the lead's messages */
 };
 
 /* The kinds of request, and what each reads of struct speldervacht_request. Any other kind is
@@ -175,7 +195,7 @@ enum speldervacht_kind {
     SPELDERVACHT_DISCARD = 9,             /* address: the entry goes with no order */
     SPELDERVACHT_FLUSH = 10,              /* alone, lead: every dirty entry is written; none may be held */
     SPELDERVACHT_SYNC = 11,               /* lead: entries are written until enough is clean */
-    SPELDERVACHT_TAKE = 12,               /* standby, the list: these addresses become clean */
+    SPELDERVACHT_TAKE = 12,               /* standby, the message: its addresses become clean */
     SPELDERVACHT_CONFIGURE = 13           /* settings: they count from now on */
 };
 
@@ -191,7 +211,8 @@ enum speldervacht_order {
 enum speldervacht_number {
     SPELDERVACHT_ACCEPTED = 0,
     SPELDERVACHT_BAD_TABLE = 1,       /* rows out of limits, table too short, or no cache in it */
-    SPELDERVACHT_FEW_ORDER_WORDS = 2, /* insert, protect, release, flush, sync, configure need them */
+    SPELDERVACHT_FEW_ORDER_WORDS = 2, /* insert, protect, release, flush, sync, configure need them;
+                                         too few bytes to write a message into */
     SPELDERVACHT_BAD_ADDRESS = 3,     /* all ones is no address */
     SPELDERVACHT_BAD_SIZE = 4,        /* 0, or above SPELDERVACHT_LARGEST_ENTRY */
     SPELDERVACHT_BAD_MODE = 5,        /* not for this mode; at opening a bad mode or threshold */
@@ -202,7 +223,12 @@ enum speldervacht_number {
     SPELDERVACHT_PIN_FORBIDS = 10,    /* pinned at pin or discard, not pinned at unpin */
     SPELDERVACHT_NO_ROW = 11,         /* no row is free, and no entry may be evicted */
     SPELDERVACHT_BAD_SETTING = 12,    /* the lowest bad field comes with it */
-    SPELDERVACHT_BAD_LIST = 13        /* an address twice, or one not dirty here */
+    SPELDERVACHT_BAD_LIST = 13,       /* an address twice, or one not dirty here */
+    SPELDERVACHT_CUT_MESSAGE = 14,    /* the message's bytes end early */
+    SPELDERVACHT_BAD_MESSAGE = 15,    /* a byte that no right message can have there; or a list to write
+                                         that has more than SPELDERVACHT_MOST_LISTED addresses */
+    SPELDERVACHT_WRONG_NUMBER = 16    /* take: a right message without the next number; a lead's flush
+                                         and sync: no number is left to send */
 };
 
 /* Kinds of the rules and caps in the settings. An unknown kind is a bad setting. */
@@ -289,7 +315,13 @@ typedef struct speldervacht_batched {
     uint64_t orders; /* how many orders they gave */
 } speldervacht_batched;
 
-/* The figures of a cache, in bytes but for entries and due. */
+/* What writing a message came to. */
+typedef struct speldervacht_written {
+    uint64_t number; /* 0, SPELDERVACHT_FEW_ORDER_WORDS or SPELDERVACHT_BAD_MESSAGE */
+    uint64_t bytes;  /* how many bytes the message has, 0 if it was refused */
+} speldervacht_written;
+
+/* The figures of a cache, in bytes but for entries, due and next. */
 typedef struct speldervacht_figures {
     uint64_t number;                           /* 0, or SPELDERVACHT_BAD_TABLE and all else is 0 */
     uint64_t held;                             /* held bytes: the sizes of all entries, held or not */
@@ -299,6 +331,7 @@ typedef struct speldervacht_figures {
     uint64_t clean;                            /* minimum clean bytes: what is to be clean or unused */
     uint64_t count;                            /* made dirty since the last list */
     uint64_t due;                              /* 1 if the count exceeds the threshold, else 0 */
+    uint64_t next;                             /* number of the next message; 0: none is left */
     uint64_t totals[SPELDERVACHT_IDLE_COUNTS]; /* the sizes of the entries with each idle count */
 } speldervacht_figures;
 
@@ -308,7 +341,8 @@ SPELDERVACHT_STATIC_ASSERT(sizeof(struct speldervacht_request) == 200, "25 words
 SPELDERVACHT_STATIC_ASSERT(sizeof(struct speldervacht_answer) == 24, "3 words");
 SPELDERVACHT_STATIC_ASSERT(sizeof(struct speldervacht_verdict) == 16, "2 words");
 SPELDERVACHT_STATIC_ASSERT(sizeof(struct speldervacht_batched) == 24, "3 words");
-SPELDERVACHT_STATIC_ASSERT(sizeof(struct speldervacht_figures) == 152, "19 words");
+SPELDERVACHT_STATIC_ASSERT(sizeof(struct speldervacht_written) == 16, "2 words");
+SPELDERVACHT_STATIC_ASSERT(sizeof(struct speldervacht_figures) == 160, "20 words");
 
 /* ---- functions */
 
@@ -318,12 +352,15 @@ speldervacht_answer speldervacht_open(uint64_t *table, size_t table_words, uint6
                                       uint64_t threshold, struct speldervacht_settings settings);
 
 /* Does one request on the cache in the table. Its orders stand from orders[0] on, three words each;
- * the words past the last order stay as they were. The list is read by take alone.
+ * the words past the last order stay as they were. The message is read by take alone.
  *
- * A lead's list is the addresses of the write orders of an accepted flush or sync, and is sent even
- * if it is empty. The standby takes each list once, as sent, before the next list or change. */
+ * A lead's list is the addresses of the write orders of an accepted flush or sync. Its number is the
+ * report's next from before that request, which uses it up. The message of both is sent even if the list
+ * is empty. The standby takes each message once, in the order of their numbers, before the next list or
+ * change. A message that comes again or out of turn is refused with SPELDERVACHT_WRONG_NUMBER. */
 speldervacht_answer speldervacht_step(uint64_t *table, size_t table_words, uint64_t *orders, size_t order_words,
-                                      const uint64_t *list, size_t list_words, struct speldervacht_request request);
+                                      const uint8_t *message, size_t message_bytes,
+                                      struct speldervacht_request request);
 
 /* Does many requests on the cache in the table, which is judged once: one after another, each exactly as
  * speldervacht_step does it on the table that the one before it left, with the order words that are then
@@ -352,10 +389,18 @@ speldervacht_batched speldervacht_batch(uint64_t *table, size_t table_words, uin
  * changes nothing. What it tells holds as long as the table gets no other request. It costs what
  * judging the table and testing the request cost, never more than the request itself. */
 speldervacht_verdict speldervacht_ask(const uint64_t *table, size_t table_words, size_t order_words,
-                                      const uint64_t *list, size_t list_words, struct speldervacht_request request);
+                                      const uint8_t *message, size_t message_bytes,
+                                      struct speldervacht_request request);
 
 /* Tells the figures of the cache in the table. */
 speldervacht_figures speldervacht_report(const uint64_t *table, size_t table_words);
+
+/* Writes the message of a numbered list into the first SPELDERVACHT_MESSAGE_BYTES(list_words) bytes; the bytes
+ * past it stay as they were. Refused with SPELDERVACHT_FEW_ORDER_WORDS if fewer bytes are lent, and else with
+ * SPELDERVACHT_BAD_MESSAGE if the list has more than SPELDERVACHT_MOST_LISTED addresses. It judges neither
+ * the number nor the addresses. */
+speldervacht_written speldervacht_write_message(uint8_t *bytes, size_t byte_count, uint64_t number,
+                                                const uint64_t *list, size_t list_words);
 
 /* The default settings: 2 MiB to begin with, between 1 MiB and 32 MiB, all rules on. */
 static inline speldervacht_settings speldervacht_default_settings(void) {
@@ -401,7 +446,8 @@ static inline const char *speldervacht_text(uint64_t number) {
     case SPELDERVACHT_ACCEPTED: return "accepted";
     case SPELDERVACHT_BAD_TABLE:
         return "the row count is out of limits, the table is too short, or its words picture no cache";
-    case SPELDERVACHT_FEW_ORDER_WORDS: return "the request needs more words for orders than it was lent";
+    case SPELDERVACHT_FEW_ORDER_WORDS:
+        return "the request needs more words for orders, or the message more bytes, than were lent";
     case SPELDERVACHT_BAD_ADDRESS: return "all ones is no address";
     case SPELDERVACHT_BAD_SIZE: return "the size is not within 1 to 134217728 bytes";
     case SPELDERVACHT_BAD_MODE:
@@ -414,6 +460,12 @@ static inline const char *speldervacht_text(uint64_t number) {
     case SPELDERVACHT_NO_ROW: return "no row is free and no entry may be evicted";
     case SPELDERVACHT_BAD_SETTING: return "a setting is bad";
     case SPELDERVACHT_BAD_LIST: return "the list names an address twice, or one that is not dirty here";
+    case SPELDERVACHT_CUT_MESSAGE: return "the message's bytes end early";
+    case SPELDERVACHT_BAD_MESSAGE:
+        return "the message has a byte that no right message can have there, or the list to write is longer than a "
+               "message can have";
+    case SPELDERVACHT_WRONG_NUMBER:
+        return "the message does not have the next number, or no number is left to send";
     default: return "no answer has this number";
     }
 }

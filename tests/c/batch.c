@@ -13,6 +13,7 @@
 #define ANSWERS SPELDERVACHT_ANSWER_WORDS(MOST_REQUESTS)
 #define MOST_ORDERS SPELDERVACHT_BATCH_ORDER_WORDS(ROWS, 60)
 #define MODES 3
+#define NEXT 8 /* where a table has the number of the next message */
 #define RUNS 3000
 
 /* A cache and all that is lent for a batch. */
@@ -233,14 +234,15 @@ static uint64_t random_kind(void) {
     }
 }
 
-/* Random batches, cut short at random places, and gone on with. */
+/* Random batches, cut short at random places, and gone on with. A lead comes to its last number. */
 static void random_batches(void) {
-    unsigned stopped = 0, refused = 0, whole = 0;
+    unsigned stopped = 0, refused = 0, whole = 0, numberless = 0;
     for (unsigned run = 0; run < RUNS; run++) {
         uint64_t count = below(MOST_REQUESTS);
         speldervacht_batched told;
         if (run % 50 == 0) {
             open_both(run / 50 % MODES);
+            batched.table[NEXT] = stepped.table[NEXT] = UINT64_MAX - below(8);
         }
         length = 0;
         for (uint64_t i = 0; i < count; i++) {
@@ -251,9 +253,11 @@ static void random_batches(void) {
         whole += told.number == SPELDERVACHT_ACCEPTED && told.orders > 3;
         for (uint64_t i = 0; i < told.done; i++) {
             refused += batched.answers[2 * i] != SPELDERVACHT_ACCEPTED;
+            numberless += batched.answers[2 * i] == SPELDERVACHT_WRONG_NUMBER;
         }
     }
     expect(stopped > RUNS / 20 && whole > RUNS / 20 && refused > RUNS, "batches of each sort");
+    expect(numberless > RUNS / 100, "flushes and syncs without a number");
 }
 
 int main(void) {

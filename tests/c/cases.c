@@ -81,18 +81,18 @@ static void one_entry(void) {
 static void rule_kinds(void) {
     speldervacht_settings settings = speldervacht_default_settings();
     expect(open_small(SPELDERVACHT_LEAD) == SPELDERVACHT_ACCEPTED, "opening with no rules");
-    expect(table[15] == 0 && table[20] == 0 && table[23] == 0, "no increase, no flash, no decrease");
+    expect(table[16] == 0 && table[21] == 0 && table[24] == 0, "no increase, no flash, no decrease");
     settings.increment_kind = settings.decrement_kind = SPELDERVACHT_NO_CAP;
     settings.decrease_multiplier = 0.5;
     settings.decrease_kind = SPELDERVACHT_DECREASE_BY_THRESHOLD;
     expect(speldervacht_open(table, TABLE, ROWS, SPELDERVACHT_LEAD, 1, settings).number == SPELDERVACHT_ACCEPTED,
            "opening with a decrease by threshold");
-    expect(table[24] != 0 && table[25] == 0 && table[26] != 0, "upper rate and multiplier");
-    expect(table[19] == 0 && table[28] == 0, "no caps");
+    expect(table[25] != 0 && table[26] == 0 && table[27] != 0, "upper rate and multiplier");
+    expect(table[20] == 0 && table[29] == 0, "no caps");
     settings.decrease_kind = SPELDERVACHT_DECREASE_BY_AGE_OUT;
     expect(speldervacht_open(table, TABLE, ROWS, SPELDERVACHT_LEAD, 1, settings).number == SPELDERVACHT_ACCEPTED,
            "opening with an age-out");
-    expect(table[24] == 0 && table[25] == 3 && table[26] != 0, "epochs and reserve");
+    expect(table[25] == 0 && table[26] == 3 && table[27] != 0, "epochs and reserve");
 }
 
 static void refusals(void) {
@@ -129,13 +129,19 @@ static void refusals(void) {
     expect(step(SPELDERVACHT_DISCARD, 1, 0).number == SPELDERVACHT_ACCEPTED, "the table as it was");
 }
 
+/* What is told of a take of the first list. */
+static uint64_t told_of_take(const uint64_t *list, size_t length) {
+    uint8_t message[SPELDERVACHT_MESSAGE_BYTES(ROWS)];
+    size_t bytes = speldervacht_write_message(message, sizeof message, 1, list, length).bytes;
+    return checked_ask(table, TABLE, 0, message, bytes, speldervacht_request_of(SPELDERVACHT_TAKE, 0, 0)).number;
+}
+
 /* Requests that are asked about and not done. */
 static void asking(void) {
     const uint64_t unknown[] = {0, SPELDERVACHT_CONFIGURE + 1, UINT64_MAX};
     const uint64_t twice[] = {100, 100};
     speldervacht_request insert = speldervacht_request_of(SPELDERVACHT_INSERT, 200, 10);
     speldervacht_request pin = speldervacht_request_of(SPELDERVACHT_PIN, 100, 0);
-    speldervacht_request take = speldervacht_request_of(SPELDERVACHT_TAKE, 0, 0);
     speldervacht_request configure = speldervacht_request_of(SPELDERVACHT_CONFIGURE, 0, 0);
     speldervacht_verdict verdict;
     expect(open_small(SPELDERVACHT_STANDBY) == SPELDERVACHT_ACCEPTED, "opening a standby");
@@ -147,8 +153,8 @@ static void asking(void) {
     expect(told_with(pin, TABLE, 0) == SPELDERVACHT_NOT_HELD, "a pin, which needs none");
     expect(told_with(insert, TABLE - 1, ORDERS) == SPELDERVACHT_BAD_TABLE, "a short table");
     expect(told_with(insert, 0, ORDERS) == SPELDERVACHT_BAD_TABLE, "no table");
-    expect(checked_ask(table, TABLE, 0, twice, 1, take).number == SPELDERVACHT_ACCEPTED, "a list");
-    expect(checked_ask(table, TABLE, 0, twice, 2, take).number == SPELDERVACHT_BAD_LIST, "an address twice");
+    expect(told_of_take(twice, 1) == SPELDERVACHT_ACCEPTED, "a list");
+    expect(told_of_take(twice, 2) == SPELDERVACHT_BAD_LIST, "an address twice");
     configure.settings = small_settings();
     expect(told_with(configure, TABLE, ORDERS) == SPELDERVACHT_ACCEPTED, "settings");
     configure.settings.epoch = SPELDERVACHT_SHORTEST_EPOCH - 1;
@@ -169,7 +175,7 @@ static void asking(void) {
 }
 
 static void everything_is_told(void) {
-    for (size_t number = 0; number <= SPELDERVACHT_BAD_LIST; number++) {
+    for (size_t number = 0; number <= LAST_NUMBER; number++) {
         expect(told[number] != 0, "each number is told");
     }
     for (size_t kind = 1; kind <= SPELDERVACHT_CONFIGURE; kind++) {
@@ -179,13 +185,17 @@ static void everything_is_told(void) {
 
 static void lists(void) {
     const uint64_t list[2] = {100, 200};
+    const uint8_t wrong = 9;
     speldervacht_request take = speldervacht_request_of(SPELDERVACHT_TAKE, 0, 0);
     expect(open_small(SPELDERVACHT_STANDBY) == SPELDERVACHT_ACCEPTED, "opening a standby");
     step(SPELDERVACHT_INSERT, 100, 10);
-    expect(checked_step(table, TABLE, NULL, 0, list, 2, take).number == SPELDERVACHT_BAD_LIST, "13");
+    expect(checked_take(table, TABLE, 1, list, 2) == SPELDERVACHT_BAD_LIST, "13");
     step(SPELDERVACHT_INSERT, 200, 20);
     expect(speldervacht_report(table, TABLE).dirty == 30, "30 dirty");
-    expect(checked_step(table, TABLE, NULL, 0, list, 2, take).number == SPELDERVACHT_ACCEPTED, "a list");
+    expect(checked_step(table, TABLE, NULL, 0, NULL, 0, take).number == SPELDERVACHT_CUT_MESSAGE, "14");
+    expect(checked_step(table, TABLE, NULL, 0, &wrong, 1, take).number == SPELDERVACHT_BAD_MESSAGE, "15");
+    expect(checked_take(table, TABLE, 2, list, 2) == SPELDERVACHT_WRONG_NUMBER, "16");
+    expect(checked_take(table, TABLE, 1, list, 2) == SPELDERVACHT_ACCEPTED, "a list");
     expect(speldervacht_report(table, TABLE).dirty == 0, "none dirty");
     expect(open_small(SPELDERVACHT_LEAD) == SPELDERVACHT_ACCEPTED, "opening a lead");
     for (uint64_t address = 1; address <= ROWS; address++) {

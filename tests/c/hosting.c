@@ -75,8 +75,43 @@ static void pair(void) {
     write_fails = 0;
     expect(send_list(&lead, &standby, SPELDERVACHT_FLUSH) == SPELDERVACHT_ACCEPTED && written == 2, "a flush");
     expect(dirty(&lead) == 0 && dirty(&standby) == 0, "the list is taken");
+    expect(next_number(&lead) == 2 && next_number(&standby) == 2, "it had number 1");
     expect(both(SPELDERVACHT_INSERT, 300, 30) == SPELDERVACHT_ACCEPTED && evicted == 2, "each has evicted one");
     expect(send_list(&standby, &lead, SPELDERVACHT_FLUSH) == SPELDERVACHT_BAD_MODE, "a refusal sends no list");
+}
+
+/* Two messages of the pair: in part, out of turn, again. */
+static void sending_again(void) {
+    static sending first, second;
+    uint64_t before[SPELDERVACHT_TABLE_WORDS(2)];
+    open_side(&lead, SPELDERVACHT_LEAD);
+    open_side(&standby, SPELDERVACHT_STANDBY);
+    both(SPELDERVACHT_INSERT, 100, 10);
+    both(SPELDERVACHT_INSERT, 200, 20);
+    expect(make_list(&lead, SPELDERVACHT_FLUSH, &first) == SPELDERVACHT_ACCEPTED, "a list");
+    expect(make_list(&lead, SPELDERVACHT_SYNC, &second) == SPELDERVACHT_ACCEPTED, "an empty list");
+    expect(first.number == 1 && second.number == 2 && first.bytes == 41 && second.bytes == 19, "their messages");
+    memcpy(before, standby.table, sizeof before);
+    first.bytes--;
+    expect(take_list(&standby, &first) == SPELDERVACHT_CUT_MESSAGE, "a part of it");
+    first.bytes++;
+    expect(take_list(&standby, &second) == SPELDERVACHT_WRONG_NUMBER, "out of turn");
+    expect(memcmp(before, standby.table, sizeof before) == 0, "neither changes anything");
+    expect(take_list(&standby, &first) == SPELDERVACHT_ACCEPTED && dirty(&standby) == 0, "the first");
+    both(SPELDERVACHT_DISCARD, 100, 0);
+    both(SPELDERVACHT_INSERT, 100, 10);
+    expect(take_list(&standby, &first) == SPELDERVACHT_ACCEPTED && dirty(&standby) == 10, "it was taken before");
+    expect(take_list(&standby, &second) == SPELDERVACHT_ACCEPTED && next_number(&standby) == 3, "the second");
+    expect(take_list(&standby, &first) == SPELDERVACHT_WRONG_NUMBER, "not the last that was taken");
+}
+
+/* A lead that is opened fresh beside a standby that goes on, and both opened fresh. */
+static void opened_apart(void) {
+    open_side(&lead, SPELDERVACHT_LEAD);
+    expect(send_list(&lead, &standby, SPELDERVACHT_SYNC) == SPELDERVACHT_WRONG_NUMBER, "the lead begins with 1");
+    open_side(&lead, SPELDERVACHT_LEAD);
+    open_side(&standby, SPELDERVACHT_STANDBY);
+    expect(send_list(&lead, &standby, SPELDERVACHT_SYNC) == SPELDERVACHT_ACCEPTED, "both begin with 1");
 }
 
 /* ---- one cache */
@@ -287,7 +322,7 @@ static void change_memory(uint64_t kind, uint64_t address) {
 static void expect_memory(void) {
     uint64_t there = 0;
     for (uint64_t row = 0; row < ROWS; row++) {
-        const uint64_t *words_of_row = batching.table + 29 + 6 * row;
+        const uint64_t *words_of_row = batching.table + 30 + 6 * row;
         expect(words_of_row[1] == 0 || in_memory[words_of_row[0]], "memory has what the table has");
         there += words_of_row[1] != 0;
     }
@@ -350,6 +385,8 @@ static void failing_batches(void) {
 
 int main(void) {
     pair();
+    sending_again();
+    opened_apart();
     own_release();
     pinned_change();
     no_row();

@@ -98,10 +98,6 @@ static void count(void) {
     expect(count_after(1) == SPELDERVACHT_COUNT_STOP, "no further");
 }
 
-static uint64_t taken(const uint64_t *list, size_t length) {
-    return checked_step(table, TABLE, NULL, 0, list, length, speldervacht_request_of(SPELDERVACHT_TAKE, 0, 0)).number;
-}
-
 /* A list has at most an address for each row, at the lead that sends it and at the standby that takes it. */
 static void lists(void) {
     uint64_t list[SPELDERVACHT_LIST_WORDS(ROWS) + 1];
@@ -121,8 +117,25 @@ static void lists(void) {
             expect(checked_step(table, TABLE, orders, ORDERS, NULL, 0, flush).orders == longest, "the longest list");
         }
     }
-    expect(taken(list, longest + 1) == SPELDERVACHT_BAD_LIST, "a longer list");
-    expect(taken(list, longest) == SPELDERVACHT_ACCEPTED, "the longest list is taken");
+    expect(checked_take(table, TABLE, 1, list, longest + 1) == SPELDERVACHT_BAD_LIST, "a longer list");
+    expect(checked_take(table, TABLE, 1, list, longest) == SPELDERVACHT_ACCEPTED, "the longest list is taken");
+}
+
+/* A message has the bytes that the header says, and up to the most addresses. */
+static void messages(void) {
+    static uint64_t list[SPELDERVACHT_MOST_LISTED + 1];
+    static uint8_t message[SPELDERVACHT_MESSAGE_BYTES(SPELDERVACHT_MOST_LISTED + 1)];
+    const size_t counts[] = {0, 1, 255, 256, SPELDERVACHT_MOST_LISTED};
+    for (size_t i = 0; i < sizeof counts / sizeof counts[0]; i++) {
+        const size_t bytes = SPELDERVACHT_MESSAGE_BYTES(counts[i]);
+        speldervacht_written written = speldervacht_write_message(message, bytes, 1, list, counts[i]);
+        expect(written.number == SPELDERVACHT_ACCEPTED && written.bytes == bytes, "bytes enough");
+        written = speldervacht_write_message(message, bytes - 1, 1, list, counts[i]);
+        expect(written.number == SPELDERVACHT_FEW_ORDER_WORDS && written.bytes == 0, "a byte too few");
+    }
+    expect(speldervacht_write_message(message, sizeof message, 1, list, SPELDERVACHT_MOST_LISTED + 1).number ==
+               SPELDERVACHT_BAD_MESSAGE,
+           "an address too many");
 }
 
 /* An entry that nobody uses goes through all idle counts, an epoch each, and stays at the last. */
@@ -180,6 +193,7 @@ int main(void) {
     readers();
     count();
     lists();
+    messages();
     idle_counts();
     settings_limits();
     return outcome("all limits hold");

@@ -19,10 +19,11 @@ typedef struct side {
     uint64_t rows;
 } side;
 
-/* A shared change, or a take with its list. */
+/* A shared change, or a take with its message. */
 typedef struct change {
     uint64_t kind, address, size;
-    uint64_t list[SPELDERVACHT_LIST_WORDS(LEAD_ROWS)], length;
+    uint8_t message[SPELDERVACHT_MESSAGE_BYTES(LEAD_ROWS)];
+    size_t bytes;
 } change;
 
 static side lead, standby;
@@ -35,8 +36,12 @@ static unsigned refused;
 
 static speldervacht_answer step(side *at, const change *what) {
     return speldervacht_step(at->table, SPELDERVACHT_TABLE_WORDS(at->rows), at->orders,
-                             SPELDERVACHT_ORDER_WORDS(at->rows), what->list, what->length,
+                             SPELDERVACHT_ORDER_WORDS(at->rows), what->message, what->bytes,
                              speldervacht_request_of(what->kind, what->address, what->size));
+}
+
+static speldervacht_figures report(const side *at) {
+    return speldervacht_report(at->table, SPELDERVACHT_TABLE_WORDS(at->rows));
 }
 
 static uint64_t request(side *at, uint64_t kind, uint64_t address, uint64_t size) {
@@ -90,6 +95,16 @@ static void local_request(void) {
     }
 }
 
+/* The lead's flush or sync becomes the standby's take. */
+static void become_take(change *what, uint64_t number, uint64_t orders) {
+    uint64_t list[SPELDERVACHT_LIST_WORDS(LEAD_ROWS)];
+    for (uint64_t i = 0; i < orders; i++) {
+        list[i] = lead.orders[3 * i + 1];
+    }
+    what->kind = SPELDERVACHT_TAKE;
+    what->bytes = speldervacht_write_message(what->message, sizeof what->message, number, list, orders).bytes;
+}
+
 /* What the lead accepts is sent. Before a flush or sync the standby has had all. */
 static void lead_turn(uint64_t turn) {
     static const uint64_t kinds[] = {SPELDERVACHT_INSERT,  SPELDERVACHT_RELEASE_CHANGED, SPELDERVACHT_RESIZE,
@@ -97,6 +112,7 @@ static void lead_turn(uint64_t turn) {
     change next = {kinds[below(6)], below(RECORDS), 1 + below(400), {0}, 0};
     int sends = next.kind == SPELDERVACHT_FLUSH || next.kind == SPELDERVACHT_SYNC;
     int written = next.kind == SPELDERVACHT_RELEASE_CHANGED || next.kind == SPELDERVACHT_RESIZE;
+    uint64_t number = report(&lead).next;
     speldervacht_answer answer;
     if (next.kind == SPELDERVACHT_INSERT) {
         next.address = RECORDS + turn; /* a new record */
@@ -113,11 +129,7 @@ static void lead_turn(uint64_t turn) {
         request(&lead, SPELDERVACHT_RELEASE_UNCHANGED, next.address, 0);
     }
     if (sends) {
-        next.kind = SPELDERVACHT_TAKE;
-        next.length = answer.orders;
-        for (uint64_t i = 0; i < answer.orders; i++) {
-            next.list[i] = lead.orders[3 * i + 1];
-        }
+        become_take(&next, number, answer.orders);
     }
     if (answer.number == SPELDERVACHT_ACCEPTED) {
         queue[sent++] = next;
@@ -127,7 +139,7 @@ static void lead_turn(uint64_t turn) {
 /* Whether a record that is dirty at the one is dirty at the other, at the same size. */
 static int dirty_at(const side *at, uint64_t address, uint64_t size) {
     for (uint64_t row = 0; row < at->rows; row++) {
-        const uint64_t *words = at->table + 29 + 6 * row;
+        const uint64_t *words = at->table + 30 + 6 * row;
         if (words[0] == address && words[1] == size && words[2] == 1) {
             return 1;
         }
@@ -136,11 +148,11 @@ static int dirty_at(const side *at, uint64_t address, uint64_t size) {
 }
 
 static void expect_agreement(void) {
-    speldervacht_figures first = speldervacht_report(lead.table, SPELDERVACHT_TABLE_WORDS(lead.rows));
-    speldervacht_figures second = speldervacht_report(standby.table, SPELDERVACHT_TABLE_WORDS(standby.rows));
+    speldervacht_figures first = report(&lead), second = report(&standby);
     expect(first.dirty == second.dirty && first.count == second.count && first.due == second.due, "the figures");
+    expect(first.next == second.next, "the next number");
     for (uint64_t row = 0; row < lead.rows; row++) {
-        const uint64_t *words = lead.table + 29 + 6 * row;
+        const uint64_t *words = lead.table + 30 + 6 * row;
         expect(words[2] == 0 || dirty_at(&standby, words[0], words[1]), "the lead's dirty records");
     }
 }

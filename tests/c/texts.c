@@ -34,6 +34,12 @@ static void expect_in_rust(const char *text) {
     }
 }
 
+/* A number with two reasons, each of which is a refusal of its own in Rust: one of them. */
+static void expect_part_in_rust(uint64_t number, const char *part) {
+    expect(strstr(speldervacht_text(number), part) != NULL, part);
+    expect_in_rust(part);
+}
+
 typedef const char *text_of(uint64_t number);
 
 /* Each number from first to last has a text of its own, and all others share one that is none of these. */
@@ -57,7 +63,8 @@ static void worked(void) {
     expect(strcmp(speldervacht_text(6), "the cache has no entry at the address") == 0, "the text of 6");
     expect(strcmp(speldervacht_text(7), "the cache has an entry at the address") == 0, "the text of 7");
     expect(strcmp(speldervacht_text(11), "no row is free and no entry may be evicted") == 0, "the text of 11");
-    expect(strcmp(speldervacht_text(14), "no answer has this number") == 0, "the text of 14");
+    expect(strcmp(speldervacht_text(14), "the message's bytes end early") == 0, "the text of 14");
+    expect(strcmp(speldervacht_text(17), "no answer has this number") == 0, "the text of 17");
     expect(strcmp(speldervacht_field(7), "the epoch length") == 0, "the name of field 7");
     expect(strcmp(speldervacht_field(0), "no field of the settings has this number") == 0, "the name of field 0");
 }
@@ -72,10 +79,12 @@ static void limits(void) {
 /* Texts without particulars, and all names of fields, are the Rust crate's. */
 static void as_in_rust(void) {
     const uint64_t plain[] = {SPELDERVACHT_BAD_TABLE, SPELDERVACHT_BAD_ADDRESS, SPELDERVACHT_HELD,
-                              SPELDERVACHT_NO_ROW, SPELDERVACHT_BAD_LIST};
+                              SPELDERVACHT_NO_ROW,    SPELDERVACHT_BAD_LIST,    SPELDERVACHT_CUT_MESSAGE};
     for (size_t i = 0; i < sizeof plain / sizeof plain[0]; i++) {
         expect_in_rust(speldervacht_text(plain[i]));
     }
+    expect_part_in_rust(SPELDERVACHT_BAD_MESSAGE, "the message has a byte that no right message can have there");
+    expect_part_in_rust(SPELDERVACHT_WRONG_NUMBER, "no number is left to send");
     for (uint64_t field = FIRST_FIELD; field <= LAST_FIELD; field++) {
         expect_in_rust(speldervacht_field(field));
     }
@@ -93,7 +102,7 @@ int main(int count, char **arguments) {
         printf("usage: texts FILE, which is bindings/rust/src/refusal.rs\n");
         return 2;
     }
-    own_texts(speldervacht_text, SPELDERVACHT_ACCEPTED, SPELDERVACHT_BAD_LIST);
+    own_texts(speldervacht_text, SPELDERVACHT_ACCEPTED, SPELDERVACHT_WRONG_NUMBER);
     own_texts(speldervacht_field, FIRST_FIELD, LAST_FIELD);
     worked();
     limits();
