@@ -4,14 +4,14 @@
 //!     cargo run --release --example host [SEED [STEPS [FOLDER]]]
 //!
 //! The hosts play at random: records are created, changed, read for a while, pinned and discarded,
-//! lists are sent and taken, the world moves from one host to the other, and now and then the lead is
+//! messages are sent and taken, the world moves from one host to the other, and now and then the lead is
 //! lost. A change is asked of both hosts, and done at both once both say yes; where one would refuse it,
 //! what helps is done and both are asked again. After every step each record of the world is looked
 //! for: it is in the file as it should be, or it is dirty in the memory of both hosts.
 
 use speldervacht::{
-    ask, open, order_words, report, step, table_words, Decrease, Flash, Increase, Mode, OrderKind, Refusal, Request,
-    Settings,
+    ask, message_bytes, open, order_words, report, step, table_words, write_message, Decrease, Flash, Increase, Mode,
+    OrderKind, Refusal, Request, Settings,
 };
 use std::collections::{BTreeMap, BTreeSet, VecDeque};
 use std::error::Error;
@@ -168,7 +168,7 @@ impl Host {
 
 /// What was done so that a host accepts what it would refuse.
 enum Help {
-    List,
+    Message,
     WriteHold,
     ReaderGone,
     PinGone,
@@ -187,8 +187,8 @@ struct Story {
     read: u64,
     pinned: u64,
     discarded: u64,
-    lists: u64,
-    longest_list: usize,
+    messages: u64,
+    longest_message: usize,
     moves: u64,
     leads_lost: u64,
     rescued: u64,
@@ -292,8 +292,8 @@ impl Play {
     fn make_room(&mut self, host: usize) -> Result<Help, Box<dyn Error>> {
         let lead = &self.hosts[LEAD];
         let idle = lead.readers.is_empty() && lead.written.is_none();
-        if !lead.dirty.is_empty() && self.send_list(if idle { Request::Flush } else { Request::Sync })? > 0 {
-            return Ok(Help::List);
+        if !lead.dirty.is_empty() && self.send_message(if idle { Request::Flush } else { Request::Sync })? > 0 {
+            return Ok(Help::Message);
         }
         for at in [host, LEAD] {
             let host = &mut self.hosts[at];
@@ -309,16 +309,20 @@ impl Play {
         Err(Refusal::NoRow.into())
     }
 
-    /// A flush or a sync of the lead, whose list the standby takes: how many records it names.
-    fn send_list(&mut self, request: Request) -> Result<usize, Box<dyn Error>> {
+    /// A flush or a sync of the lead, whose message the standby takes: how many records it names. Its
+    /// number is what the lead tells before.
+    fn send_message(&mut self, request: Request) -> Result<usize, Box<dyn Error>> {
+        let number = report(&self.hosts[LEAD].table)?.next;
         let list = self.hosts[LEAD].step(&self.world, &request)?;
+        let mut message = vec![0; message_bytes(list.len())];
+        write_message(&mut message, number, &list)?;
         let standby = &mut self.hosts[STANDBY];
-        standby.step(&self.world, &Request::Take { list: &list })?;
+        standby.step(&self.world, &Request::Take { message: &message })?;
         for address in &list {
             standby.dirty.remove(address);
         }
-        self.story.lists += 1;
-        self.story.longest_list = self.story.longest_list.max(list.len());
+        self.story.messages += 1;
+        self.story.longest_message = self.story.longest_message.max(message.len());
         Ok(list.len())
     }
 
@@ -327,7 +331,7 @@ impl Play {
         while let Some(address) = self.hosts[LEAD].readers.front().copied() {
             self.hosts[LEAD].release(&self.world, address)?;
         }
-        self.send_list(Request::Flush).map(|_| ())
+        self.send_message(Request::Flush).map(|_| ())
     }
 
     fn create(&mut self) -> Result<(), Box<dyn Error>> {
@@ -456,10 +460,10 @@ impl Play {
             880..=919 => self.let_go(),
             920..=969 => self.discard(),
             970..=974 => self.flush(),
-            975..=979 => self.send_list(Request::Sync).map(|_| ()),
+            975..=979 => self.send_message(Request::Sync).map(|_| ()),
             980 => self.move_world(),
             981 => self.lose_lead(),
-            _ if report(&self.hosts[LEAD].table)?.due => self.send_list(Request::Sync).map(|_| ()),
+            _ if report(&self.hosts[LEAD].table)?.due => self.send_message(Request::Sync).map(|_| ()),
             _ => Ok(()),
         }
     }
@@ -485,7 +489,8 @@ impl Play {
             let known = (held as u64, dirty as u64, host.memory.len() as u64);
             assert_eq!((figures.held, figures.dirty, figures.entries), known, "{}", host.name);
         }
-        assert_eq!((figures[0].count, figures[0].due), (figures[1].count, figures[1].due));
+        let shared = figures.map(|figures| (figures.count, figures.due, figures.next));
+        assert_eq!(shared[0], shared[1], "count, due and next number");
         let story = &mut self.story;
         story.most_dirty = story.most_dirty.max(figures[0].dirty);
         story.least_maximum = story.least_maximum.min(figures[0].maximum);
@@ -520,7 +525,7 @@ fn main() -> Result<(), Box<dyn Error>> {
         play.check()?;
     }
     let story = &play.story;
-    let [lists, write_holds, readers, pins] = story.helped;
+    let [messages, write_holds, readers, pins] = story.helped;
     println!("{} created, {} changed, {} discarded", story.created, story.changed, story.discarded);
     println!("{} read, {} pinned for a while", story.read, story.pinned);
     println!("{} changes asked of both and done at both, none refused", story.asked);
@@ -528,8 +533,10 @@ fn main() -> Result<(), Box<dyn Error>> {
         "before, the lead alone would have refused {} times, the standby alone {} times, both {} times",
         story.lead_alone, story.standby_alone, story.both
     );
-    println!("what helped: {lists} lists, {write_holds} holds for writing, {readers} readers gone, {pins} pins gone");
-    println!("{} lists, the longest with {} records", story.lists, story.longest_list);
+    println!(
+        "what helped: {messages} messages, {write_holds} holds for writing, {readers} readers gone, {pins} pins gone"
+    );
+    println!("{} messages, the longest with {} bytes", story.messages, story.longest_message);
     println!(
         "{} moves; {} leads lost, {} dirty records brought in by the standby",
         story.moves, story.leads_lost, story.rescued

@@ -1,8 +1,8 @@
 //! A cache that owns its words.
 
 use crate::{
-    ask, batch, layout, open, order_words, report, step, table_words, Answers, Entries, Entry, List, Mode, OrderKind,
-    Orders, PlainRequest, Refusal, Report, Request, Settings, View, DEFAULT_THRESHOLD,
+    ask, batch, layout, open, order_words, report, step, table_words, Answers, Entries, Entry, Mode, OrderKind, Orders,
+    PlainRequest, Refusal, Report, Request, Settings, View, DEFAULT_THRESHOLD,
 };
 use alloc::{vec, vec::Vec};
 use core::fmt;
@@ -302,32 +302,34 @@ impl Cache {
         self.step_quietly(&Request::Discard { address })
     }
 
-    /// Every dirty entry is written, by rising address. At a lead, [`List::of`] the orders is sent.
+    /// Every dirty entry is written, by rising address. At a lead, [`Message::of`](crate::Message::of) the
+    /// orders is sent, with what [`next_number`](Cache::next_number) was before.
     ///
     /// # Errors
     ///
-    /// [`Refusal::WrongMode`] at a standby, [`Refusal::Held`] if anything is held.
+    /// [`Refusal::WrongMode`] at a standby, [`Refusal::Held`] if anything is held,
+    /// [`Refusal::NoNumberLeft`] at a lead.
     pub fn flush(&mut self) -> Result<Orders<'_>, Refusal> {
         self.step(&Request::Flush)
     }
 
-    /// Entries are written until enough is clean. [`List::of`] the orders is sent.
+    /// Entries are written until enough is clean. A message is sent as at a [`flush`](Cache::flush).
     ///
     /// # Errors
     ///
-    /// [`Refusal::WrongMode`] unless the cache is a lead.
+    /// [`Refusal::WrongMode`] unless the cache is a lead, [`Refusal::NoNumberLeft`].
     pub fn sync(&mut self) -> Result<Orders<'_>, Refusal> {
         self.step(&Request::Sync)
     }
 
-    /// What the lead wrote becomes clean.
+    /// What the lead wrote becomes clean. The bytes are those of its message.
     ///
     /// # Errors
     ///
-    /// [`Refusal::WrongMode`] unless the cache is a standby, [`Refusal::BadAddress`],
-    /// [`Refusal::BadList`].
-    pub fn take(&mut self, list: &List) -> Result<(), Refusal> {
-        self.step_quietly(&Request::Take { list: list.addresses() })
+    /// [`Refusal::WrongMode`] unless the cache is a standby, [`Refusal::CutMessage`],
+    /// [`Refusal::BadMessage`], [`Refusal::WrongNumber`], [`Refusal::BadAddress`], [`Refusal::BadList`].
+    pub fn take(&mut self, message: &[u8]) -> Result<(), Refusal> {
+        self.step_quietly(&Request::Take { message })
     }
 
     /// Other settings.
@@ -381,6 +383,13 @@ impl Cache {
     #[must_use]
     pub fn threshold(&self) -> u64 {
         self.view().threshold()
+    }
+
+    /// The number of the next message: the one that a lead sends, or the one that a standby takes. 0: no
+    /// number is left.
+    #[must_use]
+    pub fn next_number(&self) -> u64 {
+        self.view().next_number()
     }
 
     /// The entries by rising address.

@@ -11,7 +11,7 @@ pub use error::{Call, HostError};
 pub use guard::{NotChanged, ReadGuard, WriteGuard};
 pub use store::Store;
 
-use crate::{Access, Builder, Cache, Change, List, Mode, Order, Refusal, Report, Request, Settings};
+use crate::{Access, Builder, Cache, Change, Message, Mode, Order, Refusal, Report, Request, Settings};
 use core::fmt;
 use guard::Releases;
 use memory::{Brought, Memory};
@@ -70,7 +70,7 @@ use std::{sync::Arc, vec::Vec};
 /// # A lead and its standby
 ///
 /// Each shared change is a [`Change`], which is asked of both and then done at both. The lead writes at
-/// a flush or sync, and syncs its store before the list is made; the standby takes the list, and never
+/// a flush or sync, and syncs its store before the message is made; the standby takes the message, and never
 /// writes. Its records are in its memory or in the store that it reads.
 ///
 /// ```
@@ -104,8 +104,9 @@ use std::{sync::Arc, vec::Vec};
 /// // If the lead is lost now, the standby has what was not written.
 /// assert_eq!(standby.dirty().next().map(|(address, bytes)| (address, bytes[..].to_vec())), Some((100, vec![4, 5])));
 ///
-/// let list = lead.flush()?;
-/// standby.take(&list)?;
+/// // A lead's flush has a message, whose bytes are sent.
+/// let message = lead.flush()?.expect("a lead sends");
+/// standby.take(message.as_bytes())?;
 /// assert_eq!(standby.dirty().count(), 0);
 /// # Ok::<(), HostError<String>>(())
 /// ```
@@ -279,34 +280,38 @@ impl<S: Store> Host<S> {
         Ok(self.cache.unpin(address)?)
     }
 
-    /// Writes every dirty record and syncs the store. At a lead, the list is for the standby.
+    /// Writes every dirty record and syncs the store. A lead has a message for the standby.
     ///
     /// # Errors
     ///
-    /// Those of [`Cache::flush`], and of the store. Then all is as dirty as before, and no list is sent.
-    pub fn flush(&mut self) -> Result<List, HostError<S::Error>> {
+    /// Those of [`Cache::flush`], and of the store. Then all is as dirty as before, and there is no message.
+    pub fn flush(&mut self) -> Result<Option<Message>, HostError<S::Error>> {
         self.settle()?;
-        self.perform(&Request::Flush, None).map(List::of)
+        let number = self.cache.next_number();
+        let orders = self.perform(&Request::Flush, None)?;
+        Ok((self.cache.mode() == Mode::Lead).then(|| Message::of(number, orders)))
     }
 
-    /// Writes records until enough is clean, and syncs the store. The list is for the standby.
+    /// Writes records until enough is clean, and syncs the store. The message is for the standby.
     ///
     /// # Errors
     ///
-    /// Those of [`Cache::sync`], and of the store. Then all is as dirty as before, and no list is sent.
-    pub fn sync(&mut self) -> Result<List, HostError<S::Error>> {
+    /// Those of [`Cache::sync`], and of the store. Then all is as dirty as before, and there is no message.
+    pub fn sync(&mut self) -> Result<Message, HostError<S::Error>> {
         self.settle()?;
-        self.perform(&Request::Sync, None).map(List::of)
+        let number = self.cache.next_number();
+        let orders = self.perform(&Request::Sync, None)?;
+        Ok(Message::of(number, orders))
     }
 
-    /// What the lead wrote becomes clean.
+    /// What the lead wrote becomes clean. The bytes are those of its message.
     ///
     /// # Errors
     ///
     /// Those of [`Cache::take`].
-    pub fn take(&mut self, list: &List) -> Result<(), HostError<S::Error>> {
+    pub fn take(&mut self, message: &[u8]) -> Result<(), HostError<S::Error>> {
         self.settle()?;
-        Ok(self.cache.take(list)?)
+        Ok(self.cache.take(message)?)
     }
 
     /// Other settings.

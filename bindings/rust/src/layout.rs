@@ -7,8 +7,10 @@ pub(crate) const ROWS: usize = 1;
 pub(crate) const MODE: usize = 2;
 /// Word 3: the dirty-byte threshold.
 pub(crate) const THRESHOLD: usize = 3;
+/// Word 8: the number of the next message.
+pub(crate) const NEXT: usize = 8;
 /// The words before the first row.
-pub(crate) const HEADER_WORDS: usize = 29;
+pub(crate) const HEADER_WORDS: usize = 30;
 
 /// The words of a row, and what stands at each.
 pub(crate) const ROW_WORDS: usize = 6;

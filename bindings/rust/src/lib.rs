@@ -11,7 +11,7 @@
 //! - [`Cache`] owns its words, and has a method for each request. The caller carries out the orders. It
 //!   needs the feature `alloc`.
 //! - [`open`], [`step`], [`batch`], [`ask`] and [`report`] work on lent words, and [`View`] reads them.
-//!   They need neither `std` nor an allocator.
+//!   [`write_message`] writes what a lead sends. They need neither `std` nor an allocator.
 //!
 //! Two words have two senses. An entry is *held* while readers or a writer hold it, between protect
 //! and release; *held bytes* are the sizes of all entries, held or not. An entry is *clean* if it is
@@ -52,12 +52,12 @@
 //!
 //! They have the same dirty records at the same sizes, and the same byte count, if both are opened
 //! with the same threshold, both get every insert, changed release, resize and discard before the
-//! next one, the standby takes each list before the next list or change, and no such change is
+//! next one, the standby takes each message before the next message or change, and no such change is
 //! refused by only one of them. So the host asks both about a change, and does it at both if both
 //! would accept it; a cache gets no other request between its yes and the doing. What helps where one
 //! would refuse:
 //!
-//! - [`Refusal::NoRow`]: the lead flushes, and the standby takes the list. What became clean
+//! - [`Refusal::NoRow`]: the lead flushes, and the standby takes the message. What became clean
 //!   may be evicted.
 //! - [`Refusal::NotInCache`], [`Refusal::Held`], [`Refusal::NotHeld`], [`Refusal::Pinned`]: the entry is
 //!   protected, released or unpinned there.
@@ -65,7 +65,7 @@
 //! docs/RULES.md, "A change that one of them refuses", has an example and each number.
 //!
 //! ```
-//! use speldervacht::{Cache, List, Mode, Refusal, Request, Settings};
+//! use speldervacht::{Cache, Message, Mode, Refusal, Request, Settings};
 //!
 //! let small = Cache::builder().rows(2).threshold(1_000).settings(Settings::fixed(4_096));
 //! let mut lead = small.mode(Mode::Lead).open()?;
@@ -80,10 +80,14 @@
 //! assert_eq!(lead.ask(&insert), Err(Refusal::NoRow));
 //! assert_eq!(standby.ask(&insert), Err(Refusal::NoRow));
 //!
-//! // The lead writes and sends its list. The standby takes it.
-//! let list = List::of(lead.flush()?);
-//! assert_eq!(list.addresses(), [100, 200]);
-//! standby.take(&list)?;
+//! // The lead writes, and sends what it wrote as a message. Half of its bytes are no message.
+//! let message = Message::of(lead.next_number(), lead.flush()?);
+//! assert!(message.addresses().eq([100, 200]));
+//! assert_eq!(standby.take(&message.as_bytes()[..20]), Err(Refusal::CutMessage));
+//!
+//! // The standby takes each message once, in the order of their numbers.
+//! standby.take(message.as_bytes())?;
+//! assert_eq!(standby.take(message.as_bytes()), Err(Refusal::WrongNumber { next: 2 }));
 //!
 //! // Now both say yes, so both accept it.
 //! assert!(lead.ask(&insert).is_ok() && standby.ask(&insert).is_ok());
@@ -98,7 +102,7 @@
 //! # Lent words
 //!
 //! The host lends a *table* that holds the cache from one request to the next, words for the *orders*
-//! that a request gives, and, for a standby, a *list* of addresses. A table has no pointers: it may be
+//! that a request gives, and bytes for the *message* that a lead writes or a standby takes. A table has no pointers: it may be
 //! copied, moved or stored between requests, and nobody else may write to it.
 //!
 //! ```
@@ -132,7 +136,7 @@ mod change;
 mod host;
 mod layout;
 #[cfg(feature = "alloc")]
-mod list;
+mod message;
 mod order;
 mod plain;
 pub mod raw;
@@ -140,6 +144,7 @@ mod refusal;
 mod request;
 mod settings;
 mod view;
+mod writer;
 
 pub use batch::{batch, Answers};
 #[cfg(feature = "alloc")]
@@ -150,13 +155,14 @@ pub use change::Change;
 pub use host::{Call, Host, HostError, NotBroughtIn, NotChanged, ReadGuard, Store, WriteGuard};
 pub use layout::{order_words, table_words};
 #[cfg(feature = "alloc")]
-pub use list::List;
+pub use message::Message;
 pub use order::{Order, OrderKind, Orders};
 pub use plain::PlainRequest;
 pub use refusal::{Hold, Refusal};
 pub use request::Request;
 pub use settings::{Decrease, Flash, Increase, Settings};
 pub use view::{Entries, Entry, View};
+pub use writer::{message_bytes, write_message};
 
 /// The most rows of a table.
 pub const MOST_ROWS: usize = 4_096;
@@ -168,6 +174,8 @@ pub const DEFAULT_THRESHOLD: u64 = 262_144;
 pub const LARGEST_THRESHOLD: u64 = 1_073_741_824;
 /// Where the byte count stops.
 pub const COUNT_STOP: u64 = 1_099_511_627_776;
+/// The most addresses of a message.
+pub const MOST_LISTED: usize = 65_535;
 /// The one number that is no address.
 pub const NO_ADDRESS: u64 = u64::MAX;
 
@@ -176,13 +184,13 @@ pub const NO_ADDRESS: u64 = u64::MAX;
 pub enum Mode {
     /// The one cache of its world: dirty entries are written as room is made.
     Alone,
-    /// Writes only at a flush or sync, and tells the standby by a list.
+    /// Writes only at a flush or sync, and tells the standby by a message.
     Lead,
-    /// Never writes; takes the lead's lists.
+    /// Never writes; takes the lead's messages.
     Standby,
 }
 
-/// The figures of a cache. All but `entries` and `due` are in bytes.
+/// The figures of a cache. All but `entries`, `due` and `next` are in bytes.
 #[derive(Clone, Copy, Debug, PartialEq, Eq)]
 pub struct Report {
     /// Held bytes: the sizes of all entries, held or not.
@@ -198,6 +206,9 @@ pub struct Report {
     pub count: u64,
     /// Whether the count exceeds the threshold, so that a list is due.
     pub due: bool,
+    /// The number of the next message: the one that a lead sends, or the one that a standby takes. 0: no
+    /// number is left.
+    pub next: u64,
     /// The sizes of the entries with idle count 0, 1 and so on to 10.
     pub totals: [u64; 11],
 }
@@ -236,7 +247,7 @@ pub fn open(table: &mut [u64], rows: usize, mode: Mode, threshold: u64, settings
 ///
 /// The refusal of the request. docs/RULES.md, "Refusals", has those of each request.
 pub fn step<'o>(table: &mut [u64], orders: &'o mut [u64], request: &Request) -> Result<Orders<'o>, Refusal> {
-    let list = request.list();
+    let message = request.message();
     // SAFETY: the slices are ours for the call, and borrowed apart.
     let answer = unsafe {
         raw::speldervacht_step(
@@ -244,8 +255,8 @@ pub fn step<'o>(table: &mut [u64], orders: &'o mut [u64], request: &Request) -> 
             table.len(),
             orders.as_mut_ptr(),
             orders.len(),
-            list.as_ptr(),
-            list.len(),
+            message.as_ptr(),
+            message.len(),
             request.to_raw(),
         )
     };
@@ -267,10 +278,17 @@ pub fn step<'o>(table: &mut [u64], orders: &'o mut [u64], request: &Request) -> 
 ///
 /// The refusal that the request would get.
 pub fn ask(table: &[u64], order_words: usize, request: &Request) -> Result<(), Refusal> {
-    let list = request.list();
+    let message = request.message();
     // SAFETY: the slices are borrowed for the call.
     let verdict = unsafe {
-        raw::speldervacht_ask(table.as_ptr(), table.len(), order_words, list.as_ptr(), list.len(), request.to_raw())
+        raw::speldervacht_ask(
+            table.as_ptr(),
+            table.len(),
+            order_words,
+            message.as_ptr(),
+            message.len(),
+            request.to_raw(),
+        )
     };
     match verdict.number {
         0 => Ok(()),
@@ -295,6 +313,7 @@ pub fn report(table: &[u64]) -> Result<Report, Refusal> {
             minimum_clean: figures.clean,
             count: figures.count,
             due: figures.due != 0,
+            next: figures.next,
             totals: figures.totals,
         }),
         1 => Err(Refusal::BadTable),

@@ -66,6 +66,14 @@ pub struct Batched {
     pub orders: u64,
 }
 
+/// What a writing came to: 0 or a refusal's number, and how many bytes were written.
+#[repr(C)]
+#[derive(Clone, Copy, Debug, Default, PartialEq, Eq)]
+pub struct Written {
+    pub number: u64,
+    pub bytes: u64,
+}
+
 /// The figures of a cache; with number 1 all else is 0.
 #[repr(C)]
 #[derive(Clone, Copy, Debug, Default, PartialEq, Eq)]
@@ -78,6 +86,7 @@ pub struct Figures {
     pub clean: u64,
     pub count: u64,
     pub due: u64,
+    pub next: u64,
     pub totals: [u64; 11],
 }
 
@@ -86,7 +95,8 @@ const _: () = assert!(size_of::<Request>() == 200);
 const _: () = assert!(size_of::<Answer>() == 24);
 const _: () = assert!(size_of::<Verdict>() == 16);
 const _: () = assert!(size_of::<Batched>() == 24);
-const _: () = assert!(size_of::<Figures>() == 152);
+const _: () = assert!(size_of::<Written>() == 16);
+const _: () = assert!(size_of::<Figures>() == 160);
 
 extern "C" {
     /// Opens a fresh cache in the table.
@@ -102,18 +112,18 @@ extern "C" {
         settings: Settings,
     ) -> Answer;
 
-    /// Does one request.
+    /// Does one request. The message is read by take alone.
     ///
     /// # Safety
-    /// Each pointer has as many words as its length says, nothing else touches them during the
-    /// call, and no two of the three overlap.
+    /// Each pointer has as many words or bytes as its length says, nothing else touches them during
+    /// the call, and no two of the three overlap.
     pub fn speldervacht_step(
         table: *mut u64,
         table_words: usize,
         orders: *mut u64,
         order_words: usize,
-        list: *const u64,
-        list_words: usize,
+        message: *const u8,
+        message_bytes: usize,
         request: Request,
     ) -> Answer;
 
@@ -136,16 +146,29 @@ extern "C" {
     /// Tells what `speldervacht_step` would answer to a request, with so many order words lent.
     ///
     /// # Safety
-    /// `table` and `list` have as many words as their lengths say, which nothing writes during the
-    /// call.
+    /// `table` has as many words and `message` as many bytes as their lengths say, which nothing
+    /// writes during the call.
     pub fn speldervacht_ask(
         table: *const u64,
         table_words: usize,
         order_words: usize,
-        list: *const u64,
-        list_words: usize,
+        message: *const u8,
+        message_bytes: usize,
         request: Request,
     ) -> Verdict;
+
+    /// Writes the message that has the number and the list's addresses.
+    ///
+    /// # Safety
+    /// `bytes` has as many bytes and `list` as many words as their lengths say, nothing else touches
+    /// them during the call, and they do not overlap.
+    pub fn speldervacht_write_message(
+        bytes: *mut u8,
+        byte_count: usize,
+        number: u64,
+        list: *const u64,
+        list_words: usize,
+    ) -> Written;
 
     /// Tells the figures of the cache in the table.
     ///

@@ -1,6 +1,6 @@
 //! Why a request was refused.
 
-use crate::{order_words, raw, Mode, Request, View, LARGEST_ENTRY, LARGEST_THRESHOLD};
+use crate::{message_bytes, order_words, raw, Mode, Request, View, LARGEST_ENTRY, LARGEST_THRESHOLD, MOST_LISTED};
 use core::fmt;
 
 /// A hold on an entry.
@@ -19,6 +19,8 @@ pub enum Refusal {
     BadTable,
     /// 2: the request can give orders, and too few words were lent for them.
     FewOrderWords { needed: usize, lent: usize },
+    /// 2, of [`write_message`](crate::write_message): too few bytes were lent for the message.
+    FewBytes { needed: usize, lent: usize },
     /// 3: all ones is no address.
     BadAddress,
     /// 4: a size is 1 to 134,217,728 bytes.
@@ -48,6 +50,17 @@ pub enum Refusal {
     BadSetting { field: u64 },
     /// 13: the list names an address twice, or one that is not dirty here.
     BadList,
+    /// 14: the message's bytes end early.
+    CutMessage,
+    /// 15: the message has a byte that no right message can have there.
+    BadMessage,
+    /// 15, of [`write_message`](crate::write_message): a message has at most 65,535 addresses.
+    LongList { addresses: usize },
+    /// 16, of a take: the message is right and does not have the next number. 0: no number is left, and
+    /// no message can be taken.
+    WrongNumber { next: u64 },
+    /// 16, of a lead's flush or sync: no number is left to send.
+    NoNumberLeft,
     /// A number that this crate does not know.
     Other { number: u64 },
 }
@@ -69,12 +82,12 @@ const FIELDS: [&str; 12] = [
 ];
 
 impl Refusal {
-    /// The number, 1 to 13.
+    /// The number, 1 to 16.
     #[must_use]
     pub fn number(&self) -> u64 {
         match *self {
             Refusal::BadTable => 1,
-            Refusal::FewOrderWords { .. } => 2,
+            Refusal::FewOrderWords { .. } | Refusal::FewBytes { .. } => 2,
             Refusal::BadAddress => 3,
             Refusal::BadSize { .. } => 4,
             Refusal::WrongMode { .. } | Refusal::BadThreshold { .. } => 5,
@@ -86,6 +99,9 @@ impl Refusal {
             Refusal::NoRow => 11,
             Refusal::BadSetting { .. } => 12,
             Refusal::BadList => 13,
+            Refusal::CutMessage => 14,
+            Refusal::BadMessage | Refusal::LongList { .. } => 15,
+            Refusal::WrongNumber { .. } | Refusal::NoNumberLeft => 16,
             Refusal::Other { number } => number,
         }
     }
@@ -99,6 +115,14 @@ impl Refusal {
         }
     }
 
+    pub(crate) fn of_writing(number: u64, lent: usize, addresses: usize) -> Refusal {
+        match number {
+            2 => Refusal::FewBytes { needed: message_bytes(addresses), lent },
+            15 => Refusal::LongList { addresses },
+            number => Refusal::Other { number },
+        }
+    }
+
     /// The refusal of a request, with what the untouched table tells of it.
     pub(crate) fn of_request(verdict: raw::Verdict, table: &[u64], lent: usize, request: &Request) -> Refusal {
         let table = View::unjudged(table);
@@ -106,6 +130,7 @@ impl Refusal {
             2 => Refusal::few_order_words(table, lent),
             8 => held(table, request),
             12 => Refusal::BadSetting { field: verdict.field },
+            16 if matches!(request, Request::Take { .. }) => Refusal::WrongNumber { next: table.next_number() },
             number => Refusal::by_request(number, table.mode(), request),
         }
     }
@@ -139,6 +164,9 @@ impl Refusal {
             },
             11 => Refusal::NoRow,
             13 => Refusal::BadList,
+            14 => Refusal::CutMessage,
+            15 => Refusal::BadMessage,
+            16 => Refusal::NoNumberLeft,
             number => Refusal::Other { number },
         }
     }
@@ -160,6 +188,9 @@ impl fmt::Display for Refusal {
             }
             Refusal::FewOrderWords { needed, lent } => {
                 write!(f, "the request needs {needed} words for orders and was lent {lent}")
+            }
+            Refusal::FewBytes { needed, lent } => {
+                write!(f, "the message needs {needed} bytes and was lent {lent}")
             }
             Refusal::BadAddress => write!(f, "all ones is no address"),
             Refusal::BadSize { size } => {
@@ -201,6 +232,14 @@ impl fmt::Display for Refusal {
             Refusal::BadList => {
                 write!(f, "the list names an address twice, or one that is not dirty here")
             }
+            Refusal::CutMessage => write!(f, "the message's bytes end early"),
+            Refusal::BadMessage => write!(f, "the message has a byte that no right message can have there"),
+            Refusal::LongList { addresses } => {
+                write!(f, "the list to write has {addresses} addresses, and a message can have {MOST_LISTED}")
+            }
+            Refusal::WrongNumber { next: 0 } => write!(f, "the message does not have the next number: none is left"),
+            Refusal::WrongNumber { next } => write!(f, "the message does not have the next number, {next}"),
+            Refusal::NoNumberLeft => write!(f, "no number is left to send"),
             Refusal::Other { .. } => write!(f, "the request was refused"),
         }?;
         write!(f, " ({})", self.number())

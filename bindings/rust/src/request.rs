@@ -41,12 +41,14 @@ pub enum Request<'a> {
     Resize { address: u64, size: u64 },
     /// The record is gone: its entry goes without an order.
     Discard { address: u64 },
-    /// Every dirty entry is written, by rising address. For alone and lead; nothing may be held.
+    /// Every dirty entry is written, by rising address. For alone and lead; nothing may be held. It uses
+    /// up a lead's number.
     Flush,
-    /// Entries are written until enough is clean. For the lead.
+    /// Entries are written until enough is clean. For the lead, whose number it uses up.
     Sync,
-    /// The addresses that the lead wrote at its flush or sync become clean. For the standby.
-    Take { list: &'a [u64] },
+    /// The addresses that the lead wrote at its flush or sync become clean, if the bytes are a right
+    /// message that has the next number, which it uses up. For the standby.
+    Take { message: &'a [u8] },
     /// Other settings.
     Configure { settings: Settings },
 }
@@ -80,10 +82,10 @@ impl Request<'_> {
         }
     }
 
-    /// The list that the request takes, or none.
-    pub(crate) fn list(&self) -> &[u64] {
+    /// The message that the request takes, or none.
+    pub(crate) fn message(&self) -> &[u8] {
         match self {
-            Request::Take { list } => list,
+            Request::Take { message } => message,
             _ => &[],
         }
     }

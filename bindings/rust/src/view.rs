@@ -92,6 +92,13 @@ impl<'t> View<'t> {
         self.word(layout::THRESHOLD)
     }
 
+    /// The number of the next message: the one that a lead sends, or the one that a standby takes. 0: no
+    /// number is left.
+    #[must_use]
+    pub fn next_number(self) -> u64 {
+        self.word(layout::NEXT)
+    }
+
     /// The entries in the order of their rows, which are filled from the lowest on.
     pub(crate) fn rows_used(self) -> impl Iterator<Item = Entry> + 't {
         let rows = self.words.get(layout::HEADER_WORDS..).unwrap_or(&[]);
@@ -149,6 +156,7 @@ impl fmt::Debug for View<'_> {
                 .field("maximum", &figures.maximum)
                 .field("count", &figures.count)
                 .field("threshold", &self.threshold())
+                .field("next", &figures.next)
                 .finish_non_exhaustive(),
         }
     }

@@ -92,7 +92,7 @@ fn plain_requests_are_requests() {
         assert_eq!(Request::from(plain), request);
         assert_eq!(request.plain(), Some(plain));
     }
-    assert_eq!(Request::Take { list: &[] }.plain(), None);
+    assert_eq!(Request::Take { message: &[] }.plain(), None);
     assert_eq!(Request::Configure { settings: settings() }.plain(), None);
 }
 

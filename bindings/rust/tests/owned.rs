@@ -5,7 +5,7 @@ mod random;
 
 use random::Random;
 use speldervacht::{
-    ask, open, order_words, report, step, table_words, Access, Cache, Decrease, Entry, Flash, Hold, Increase, List,
+    ask, open, order_words, report, step, table_words, Access, Cache, Decrease, Entry, Flash, Hold, Increase, Message,
     Mode, Order, OrderKind, Refusal, Request, Settings, View, LARGEST_ENTRY, NO_ADDRESS,
 };
 
@@ -26,7 +26,18 @@ fn settings() -> Settings {
     }
 }
 
-fn some_request<'l>(random: &mut Random, list: &'l List) -> Request<'l> {
+/// A message of some of the dirty records, now and then with a wrong number, or cut short.
+fn some_message(random: &mut Random, cache: &Cache) -> Vec<u8> {
+    let dirty: Vec<u64> = cache.dirty().map(|entry| entry.address).collect();
+    let number = cache.next_number() + u64::from(random.below(5) == 0);
+    let mut bytes = Message::new(number, &dirty[..random.below(dirty.len() + 1)]).unwrap().into_bytes();
+    if random.below(5) == 0 {
+        bytes.truncate(random.below(bytes.len()));
+    }
+    bytes
+}
+
+fn some_request<'m>(random: &mut Random, message: &'m [u8]) -> Request<'m> {
     let address = if random.below(50) == 0 { NO_ADDRESS } else { random.below(10) as u64 };
     let size = if random.below(50) == 0 { LARGEST_ENTRY + 1 } else { 1 + random.below(500) as u64 };
     match random.below(40) {
@@ -41,7 +52,7 @@ fn some_request<'l>(random: &mut Random, list: &'l List) -> Request<'l> {
         34 => Request::Discard { address },
         35 => Request::Flush,
         36 => Request::Sync,
-        37..=38 => Request::Take { list: list.addresses() },
+        37..=38 => Request::Take { message },
         _ => Request::Configure { settings: Settings { epoch_length: 100 + size, ..settings() } },
     }
 }
@@ -70,7 +81,7 @@ fn by_method(cache: &mut Cache, request: &Request) -> Result<Vec<Order>, Refusal
         Request::Discard { address } => cache.discard(address).map(none),
         Request::Flush => cache.flush().map(Iterator::collect),
         Request::Sync => cache.sync().map(Iterator::collect),
-        Request::Take { list } => cache.take(&List::from_words(list)).map(none),
+        Request::Take { message } => cache.take(message).map(none),
         Request::Configure { settings } => cache.configure(&settings).map(Iterator::collect),
     }
 }
@@ -83,7 +94,7 @@ fn fields(entry: Entry) -> Fields {
 
 /// A row as docs/LAYOUT.md has it. A free one has size 0.
 fn row(words: &[u64], row: usize) -> Fields {
-    let row = &words[29 + 6 * row..35 + 6 * row];
+    let row = &words[30 + 6 * row..36 + 6 * row];
     let hold = match row[5] {
         0 => None,
         65_536 => Some(Hold::Writer),
@@ -104,7 +115,8 @@ fn views_agree(cache: &Cache) {
     for address in (0..12).chain([NO_ADDRESS]) {
         assert_eq!(cache.get(address).map(fields), by_address.iter().find(|row| row.0 == address).copied());
     }
-    let run = words[29 + 6 * ROWS..29 + 7 * ROWS].iter().take_while(|row| **row != u64::MAX);
+    assert_eq!(cache.next_number(), words[8]);
+    let run = words[30 + 6 * ROWS..30 + 7 * ROWS].iter().take_while(|row| **row != u64::MAX);
     assert!(cache.recency().map(fields).eq(run.map(|r| row(words, *r as usize))));
 }
 
@@ -118,10 +130,8 @@ fn a_cache_answers_as_the_functions_over_lent_words() {
         open(&mut table, ROWS, mode, THRESHOLD, &settings()).unwrap();
         assert_eq!((cache.rows(), cache.mode(), cache.threshold()), (ROWS, mode, THRESHOLD));
         for _ in 0..1_000 {
-            let dirty: Vec<u64> = cache.dirty().map(|entry| entry.address).collect();
-            let kept = random.below(dirty.len() + 1);
-            let list = List::from_words(&dirty[..kept]);
-            let request = some_request(&mut random, &list);
+            let message = some_message(&mut random, &cache);
+            let request = some_request(&mut random, &message);
             assert_eq!(cache.ask(&request), ask(&table, orders.len(), &request));
             let as_value = cache.clone().step(&request).map(Iterator::collect);
             let answer: Result<Vec<Order>, Refusal> = step(&mut table, &mut orders, &request).map(Iterator::collect);
@@ -155,7 +165,7 @@ fn damaged_words_make_no_cache() {
     cache.insert(100, 300).unwrap();
     let words = cache.as_words();
     // A bit of the layout's number, of the row count, of an idle count and of a run.
-    for (word, bit) in [(0, 0), (1, 1), (32, 5), (41, 0), (44, 63)] {
+    for (word, bit) in [(0, 0), (1, 1), (33, 5), (42, 0), (45, 63)] {
         let mut damaged = words.to_vec();
         damaged[word] ^= 1 << bit;
         assert_eq!(Cache::from_words(damaged.clone()), Err(Refusal::BadTable), "word {word}");
@@ -183,6 +193,6 @@ fn debug_tells_the_figures() {
     let mut cache = Cache::builder().rows(2).mode(Mode::Lead).settings(settings()).open().unwrap();
     cache.insert(100, 300).unwrap();
     let told = "Cache { mode: Lead, rows: 2, entries: 1, held: 300, dirty: 300, maximum: 2048, count: 300, \
-                threshold: 262144, .. }";
+                threshold: 262144, next: 1, .. }";
     assert_eq!(format!("{cache:?}"), told);
 }

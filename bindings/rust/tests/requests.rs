@@ -2,8 +2,8 @@
 //! about before it is done.
 
 use speldervacht::{
-    ask, open, order_words, raw, report, table_words, Decrease, Flash, Hold, Increase, Mode, Order, Refusal, Request,
-    Settings, COUNT_STOP, DEFAULT_THRESHOLD, LARGEST_ENTRY, LARGEST_THRESHOLD, MOST_ROWS, NO_ADDRESS,
+    ask, open, order_words, raw, report, table_words, Decrease, Flash, Hold, Increase, Message, Mode, Order, Refusal,
+    Request, Settings, COUNT_STOP, DEFAULT_THRESHOLD, LARGEST_ENTRY, LARGEST_THRESHOLD, MOST_ROWS, NO_ADDRESS,
 };
 
 /// What asking tells. It changes no word.
@@ -66,6 +66,10 @@ impl Cache {
         self.step(Request::ReleaseUnchanged { address })
     }
 
+    fn take(&mut self, message: &Message) -> Result<Vec<String>, u64> {
+        self.step(Request::Take { message: message.as_bytes() })
+    }
+
     fn refusal(&mut self, request: Request) -> String {
         step(&mut self.table, &mut self.orders, &request).unwrap_err().to_string()
     }
@@ -82,6 +86,10 @@ fn small() -> Settings {
         decrease: Decrease::Off,
         ..Settings::default()
     }
+}
+
+fn message(number: u64, list: &[u64]) -> Message {
+    Message::new(number, list).unwrap()
 }
 
 const NONE: Result<Vec<String>, u64> = Ok(Vec::new());
@@ -201,15 +209,15 @@ fn a_standby_takes_what_the_lead_wrote() {
         standby.insert(address, size).unwrap();
     }
     let orders = step(&mut lead.table, &mut lead.orders, &Request::Flush).unwrap();
-    let list: Vec<u64> = orders.iter().map(|order| order.address).collect();
-    assert_eq!(list, [100, 200, 300]);
-    assert_eq!(standby.step(Request::Take { list: &[100, 100] }), Err(13));
-    assert_eq!(standby.step(Request::Take { list: &[100, 400] }), Err(13));
-    assert_eq!(standby.step(Request::Take { list: &[NO_ADDRESS] }), Err(3));
-    assert_eq!(standby.step(Request::Take { list: &list }), NONE);
+    let sent = Message::of(1, orders);
+    assert_eq!(sent, message(1, &[100, 200, 300]));
+    assert_eq!(standby.take(&message(1, &[100, 100])), Err(13));
+    assert_eq!(standby.take(&message(1, &[100, 400])), Err(13));
+    assert_eq!(standby.take(&message(1, &[NO_ADDRESS])), Err(3));
+    assert_eq!(standby.take(&sent), NONE);
     assert_eq!(report(&standby.table).unwrap().dirty, 0);
-    assert_eq!(standby.step(Request::Take { list: &[] }), NONE);
-    assert_eq!(lead.step(Request::Take { list: &[] }), Err(5));
+    assert_eq!(standby.take(&message(2, &[])), NONE);
+    assert_eq!(lead.take(&message(2, &[])), Err(5));
 }
 
 #[test]
@@ -271,14 +279,14 @@ fn short_slices_are_refused() {
     let rows = 4;
     let settings = small();
     let mut table = vec![7; table_words(rows)];
-    for words in [0, 1, 28, table_words(rows) - 1] {
+    for words in [0, 1, 29, table_words(rows) - 1] {
         assert_eq!(open(&mut table[..words], rows, Mode::Alone, 1, &settings), Err(Refusal::BadTable));
     }
     assert!(table.iter().all(|word| *word == 7));
     assert_eq!(report(&table), Err(Refusal::BadTable));
     assert_eq!(report(&[]), Err(Refusal::BadTable));
     open(&mut table, rows, Mode::Alone, 1, &settings).unwrap();
-    for words in [0, 1, 28, table_words(rows) - 1] {
+    for words in [0, 1, 29, table_words(rows) - 1] {
         assert_eq!(report(&table[..words]), Err(Refusal::BadTable));
         assert_eq!(step(&mut table[..words], &mut [], &Request::Flush).unwrap_err(), Refusal::BadTable);
     }
@@ -307,6 +315,7 @@ fn asking_tells_a_yes_to_each_kind() {
     lead.insert(100, 10).unwrap();
     let mut standby = Cache::small(4, Mode::Standby);
     standby.insert(100, 10).unwrap();
+    let message = message(1, &[100]);
     let cases = [
         (&alone, Request::Insert { address: 400, size: 10 }),
         (&alone, Request::ProtectForReading { address: 100, size: 10 }),
@@ -319,7 +328,7 @@ fn asking_tells_a_yes_to_each_kind() {
         (&alone, Request::Discard { address: 100 }),
         (&lead, Request::Flush),
         (&lead, Request::Sync),
-        (&standby, Request::Take { list: &[100] }),
+        (&standby, Request::Take { message: message.as_bytes() }),
         (&alone, Request::Configure { settings: small() }),
     ];
     for (cache, request) in cases {
@@ -359,6 +368,7 @@ fn asking_tells_each_refusal() {
     let mut standby = Cache::small(1, Mode::Standby);
     standby.insert(100, 10).unwrap();
     let bad = Settings { clean_fraction: 2.0, ..small() };
+    let (twice, all_ones) = (message(1, &[100, 100]), message(1, &[100, NO_ADDRESS]));
     let cases = [
         (&alone, Request::Insert { address: NO_ADDRESS, size: 0 }, Refusal::BadAddress),
         (&alone, Request::Insert { address: 1, size: 0 }, Refusal::BadSize { size: 0 }),
@@ -373,8 +383,8 @@ fn asking_tells_each_refusal() {
         (&alone, Request::Unpin { address: 100 }, Refusal::NotPinned { address: 100 }),
         (&standby, Request::Insert { address: 200, size: 1 }, Refusal::NoRow),
         (&alone, Request::Configure { settings: bad }, Refusal::BadSetting { field: 4 }),
-        (&standby, Request::Take { list: &[100, 100] }, Refusal::BadList),
-        (&standby, Request::Take { list: &[100, NO_ADDRESS] }, Refusal::BadAddress),
+        (&standby, Request::Take { message: twice.as_bytes() }, Refusal::BadList),
+        (&standby, Request::Take { message: all_ones.as_bytes() }, Refusal::BadAddress),
     ];
     for (cache, request, refusal) in cases {
         assert_eq!(checked_ask(&cache.table, cache.orders.len(), &request), Err(refusal), "{request:?}");
@@ -387,7 +397,7 @@ fn asking_answers_an_unknown_kind() {
     let before = cache.table.clone();
     let told = |table: &[u64], kind| {
         let request = raw::Request { kind, ..raw::Request::default() };
-        // SAFETY: the slice is borrowed for the call, and there is no list.
+        // SAFETY: the slice is borrowed for the call, and there is no message.
         unsafe { raw::speldervacht_ask(table.as_ptr(), table.len(), 0, std::ptr::null(), 0, request) }
     };
     for kind in [0, 14, u64::MAX] {

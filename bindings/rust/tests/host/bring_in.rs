@@ -2,7 +2,7 @@
 
 use crate::disk::{books_agree, some_bytes, state, Handle};
 use crate::random::Random;
-use speldervacht::{Cache, Host, HostError, List, Mode, NotBroughtIn, Refusal, Settings};
+use speldervacht::{Cache, Host, HostError, Message, Mode, NotBroughtIn, Refusal, Settings};
 use std::sync::Arc;
 
 type Record = (u64, Arc<[u8]>);
@@ -45,8 +45,9 @@ fn go_on(host: &mut Host<Handle>, flush: bool) {
     if !flush {
         (0..ADDRESSES as u64 / 2).for_each(|address| host.discard(address).unwrap());
     } else if host.cache().mode() == Mode::Standby {
-        let list = List::from_words(host.dirty().map(|(address, _)| address).collect::<Vec<_>>());
-        host.take(&list).unwrap();
+        let list: Vec<u64> = host.dirty().map(|(address, _)| address).collect();
+        let message = Message::new(host.cache().next_number(), &list).unwrap();
+        host.take(message.as_bytes()).unwrap();
     } else {
         host.flush().unwrap();
     }

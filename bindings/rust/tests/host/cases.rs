@@ -1,7 +1,7 @@
 //! Single cases: what each kind of failure leaves, and what guards do.
 
 use crate::disk::{state, Handle};
-use speldervacht::{Access, Cache, Call, Host, HostError, Refusal, Settings, Store};
+use speldervacht::{Access, Cache, Call, Host, HostError, Message, Mode, Refusal, Settings, Store};
 use std::sync::Arc;
 
 /// Alone, 4,096 bytes, of which so large a share is to be clean.
@@ -115,6 +115,20 @@ fn what_an_earlier_sync_lost_is_written_again() {
     assert_eq!(failing(&mut host, 0, |host| host.flush()), "the store failed at write 100 10: write 100 10");
     host.flush().unwrap();
     assert_eq!(durable(&host, 100), Some(vec![2; 10]));
+}
+
+#[test]
+fn a_flush_that_fails_uses_up_no_number() {
+    let mut lead = Host::open(&Cache::builder().mode(Mode::Lead), Handle::default()).unwrap();
+    lead.create(100, [1; 10]).unwrap();
+    for (calls, told) in [(0, "write 100 10"), (1, "sync")] {
+        let error = failing(&mut lead, calls, |host| host.flush());
+        assert_eq!(error, format!("the store failed at {told}: {told}"));
+        assert_eq!(lead.report().unwrap().next, 1);
+    }
+    assert_eq!(lead.flush(), Ok(Some(Message::new(1, &[100]).unwrap())));
+    assert_eq!(lead.sync(), Ok(Message::new(2, &[]).unwrap()));
+    assert_eq!(alone(2, 0.0).flush(), Ok(None));
 }
 
 #[test]

@@ -54,7 +54,7 @@ struct Tally {
     /// Inserts, changed releases, resizes and discards.
     changes: [usize; 4],
     refused: usize,
-    lists: usize,
+    messages: usize,
     rescued: usize,
 }
 
@@ -99,7 +99,7 @@ impl Pair {
         if let Some(error) = told.iter().find_map(|told| told.as_ref().err()) {
             self.tally.refused += 1;
             if error.refusal() == Some(Refusal::NoRow) {
-                self.send_list();
+                self.send_message();
             }
             return false;
         }
@@ -175,14 +175,24 @@ impl Pair {
         }
     }
 
-    /// The lead flushes, or syncs if something is held, and the standby takes the list.
-    fn send_list(&mut self) {
+    /// The lead flushes, or syncs if something is held, and the standby takes the message: whole, and once.
+    fn send_message(&mut self) {
         self.lead.host.settle().unwrap();
         let held = self.lead.host.cache().entries().any(|entry| entry.hold.is_some());
-        let list =
-            with_each_failure(&mut self.lead.host, |host| if held { host.sync() } else { host.flush() }).unwrap();
-        self.standby.host.take(&list).unwrap();
-        self.tally.lists += 1;
+        let message = with_each_failure(&mut self.lead.host, |host| {
+            if held {
+                host.sync()
+            } else {
+                host.flush().map(|message| message.expect("a lead sends"))
+            }
+        });
+        let bytes = message.unwrap().into_bytes();
+        let mut take = |bytes: &[u8]| self.standby.host.take(bytes).map_err(|error| error.refusal());
+        assert_eq!(take(&bytes[..bytes.len() / 2]), Err(Some(Refusal::CutMessage)));
+        assert_eq!(take(&bytes), Ok(()));
+        let next = self.lead.host.cache().next_number();
+        assert_eq!(take(&bytes), Err(Some(Refusal::WrongNumber { next })));
+        self.tally.messages += 1;
     }
 
     /// The lead is lost, and with it what its disk had not made durable. The standby's dirty records
@@ -209,7 +219,7 @@ impl Pair {
                     140..=169 => self.create(),
                     170..=184 => self.let_go(),
                     185..=191 => self.discard(),
-                    192..=198 => self.send_list(),
+                    192..=198 => self.send_message(),
                     _ => self.lose_lead(),
                 }
                 None
@@ -217,7 +227,7 @@ impl Pair {
         };
         if let Some(error) = refused {
             match error.refusal() {
-                Some(Refusal::NoRow) => self.send_list(),
+                Some(Refusal::NoRow) => self.send_message(),
                 refusal => assert!(refusal.is_some(), "{error}"),
             }
         }
@@ -258,7 +268,7 @@ fn lead_and_standby_stay_in_step() {
             *sum += changes;
         }
         total.refused += pair.tally.refused;
-        total.lists += pair.tally.lists;
+        total.messages += pair.tally.messages;
         total.rescued += pair.tally.rescued;
         for host in [&pair.lead.host, &pair.standby.host] {
             for (call, times) in host.store().failures.borrow().iter() {
@@ -266,8 +276,8 @@ fn lead_and_standby_stay_in_step() {
             }
         }
     }
-    let reached = [&total.changes[..], &[total.refused, total.lists, total.rescued]].concat();
-    assert!(reached.iter().all(|times| *times > 100), "changes of each kind, refusals, lists, rescued: {reached:?}");
+    let reached = [&total.changes[..], &[total.refused, total.messages, total.rescued]].concat();
+    assert!(reached.iter().all(|times| *times > 100), "changes of each kind, refusals, messages, rescued: {reached:?}");
     let lead = ["size, Lead", "load, Lead", "write, Lead", "sync, Lead"];
     for call in lead.into_iter().chain(["size, Standby", "load, Standby"]) {
         assert!(failures.get(call).is_some_and(|times| *times > 100), "{call} failed often: {failures:?}");
