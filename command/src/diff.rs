@@ -1,7 +1,7 @@
 //! diff: what a lead and a standby have to agree on, and do not.
 //!
 //! They agree on the dirty records with their sizes, the threshold, the byte count, and so on whether a
-//! list is due. What else differs is told for information.
+//! list is due, and on the number of the next message. What else differs is told for information.
 
 use crate::arguments::Arguments;
 use crate::dump::Dump;
@@ -25,7 +25,7 @@ pub fn run(given: &Arguments, input: &mut dyn Read, out: &mut dyn Write) -> Resu
 }
 
 /// The words of the header that have to agree.
-const AGREED: [Header; 2] = [Header::Threshold, Header::Count];
+const AGREED: [Header; 3] = [Header::Threshold, Header::Count, Header::Next];
 
 /// One of the two dumps.
 struct Side<'a> {
@@ -121,7 +121,7 @@ impl<'a> Difference<'a> {
         match self.is_none() {
             true => writeln!(
                 out,
-                "the same: {} dirty records, their sizes, threshold and byte count",
+                "the same: {} dirty records, their sizes, threshold, byte count and next message",
                 self.dirty_records()
             )?,
             false => writeln!(out, "different")?,
@@ -169,6 +169,7 @@ impl<'a> Difference<'a> {
             ("records", Json::list(&self.records, record)),
             ("threshold", numbers(Header::Threshold)),
             ("count", numbers(Header::Count)),
+            ("next", numbers(Header::Next)),
             ("due", pair(Json::Flag(self.lead.report.due), Json::Flag(self.standby.report.due))),
         ])
     }

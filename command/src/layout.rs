@@ -4,7 +4,7 @@
 //! name in text. The places follow from the order of the lines.
 
 /// The letters SPLDVT, and the layout's number in the last two bytes.
-pub const VERSION: u64 = 0x5350_4c44_5654_0001;
+pub const VERSION: u64 = 0x5350_4c44_5654_0002;
 /// What ends a run.
 pub const ALL_ONES: u64 = u64::MAX;
 
@@ -36,6 +36,7 @@ words! {
         Accesses: "accesses of this epoch",
         Hits: "hits of this epoch",
         Count: "byte count",
+        Next: "number of the next message",
     }
 }
 

@@ -3,16 +3,16 @@
 use crate::settings::{number, set};
 use speldervacht::{Request, Settings};
 
-/// The request of a line, or what is wrong with it. Of take, the list is put in `list`; configure
+/// The request of a line, or what is wrong with it. Of take, the bytes are put in `message`; configure
 /// changes the settings that stand now.
-pub fn parse<'l>(line: &str, now: Settings, list: &'l mut Vec<u64>) -> Result<Request<'l>, String> {
+pub fn parse<'m>(line: &str, now: Settings, message: &'m mut Vec<u8>) -> Result<Request<'m>, String> {
     let mut words = line.split_whitespace();
     let kind = words.next().unwrap_or_default();
     let words: Vec<&str> = words.collect();
     match kind {
         "take" => {
-            *list = words.iter().map(|word| read(word, "an address")).collect::<Result<_, _>>()?;
-            Ok(Request::Take { list })
+            words.iter().try_for_each(|word| read_bytes(word, message))?;
+            Ok(Request::Take { message })
         }
         "configure" => {
             let mut settings = now;
@@ -23,7 +23,7 @@ pub fn parse<'l>(line: &str, now: Settings, list: &'l mut Vec<u64>) -> Result<Re
     }
 }
 
-fn plain<'l>(kind: &str, words: &[&str]) -> Result<Request<'l>, String> {
+fn plain(kind: &str, words: &[&str]) -> Result<Request<'static>, String> {
     let address = || read(words[0], "an address");
     let size = |at: usize| read(words[at], "a size");
     match (kind, words) {
@@ -64,4 +64,17 @@ fn form(kind: &str) -> Option<&'static str> {
 
 fn read(word: &str, what: &str) -> Result<u64, String> {
     number(word).ok_or_else(|| format!("{word:?} is not {what}, a number below 2^64"))
+}
+
+/// Reads the bytes of a word, two hexadecimal digits each.
+fn read_bytes(word: &str, bytes: &mut Vec<u8>) -> Result<(), String> {
+    let digit = |digit: &u8| char::from(*digit).to_digit(16);
+    for pair in word.as_bytes().chunks(2) {
+        let byte = match pair {
+            [high, low] => digit(high).zip(digit(low)).map(|(high, low)| (16 * high + low) as u8),
+            _ => None,
+        };
+        bytes.push(byte.ok_or_else(|| format!("{word:?} is not bytes, two hexadecimal digits each"))?);
+    }
+    Ok(())
 }

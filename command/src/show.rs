@@ -60,6 +60,13 @@ fn mark_name(mark: u64) -> String {
     }
 }
 
+fn next_message(number: u64) -> String {
+    match number {
+        0 => "none, since no number is left".to_string(),
+        number => format!("number {}", thousands(number)),
+    }
+}
+
 pub fn yes_or_no(word: u64) -> &'static str {
     match word {
         0 => "no",
@@ -88,6 +95,7 @@ fn header(table: &Table, words: usize, out: &mut dyn Write) -> io::Result<()> {
         ("accesses of this epoch", number(Header::Accesses)),
         ("hits of this epoch", number(Header::Hits)),
         ("byte count", format!("{} bytes made dirty since the last list", number(Header::Count))),
+        ("next message", next_message(table.header(Header::Next))),
     ];
     lines.iter().try_for_each(|(name, value)| writeln!(out, "  {name:<24}{value}"))
 }
@@ -153,6 +161,7 @@ fn json(table: &Table, report: &Option<Report>, given: &Arguments) -> Json {
         ("accesses", number(Header::Accesses)),
         ("hits", number(Header::Hits)),
         ("count", number(Header::Count)),
+        ("next", number(Header::Next)),
         ("settings", settings::json(&settings::of(table))),
         ("figures", report.as_ref().map_or(Json::Nothing, figures_json)),
     ];

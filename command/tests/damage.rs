@@ -106,7 +106,7 @@ fn words_at_the_edges_of_the_limits() {
 fn words_past_the_end_are_not_read() {
     let mut words = table(MODES[0], &settings()[0], 6);
     let end = words.len();
-    words.extend([0x5350_4c44_5654_0001; 9]);
+    words.extend([layout::VERSION; 9]);
     for place in end..words.len() {
         for bit in 0..64 {
             words[place] ^= 1 << bit;

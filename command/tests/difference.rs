@@ -3,7 +3,8 @@
 mod common;
 
 use common::{bytes, command, folder};
-use speldervacht::{open, order_words, step, table_words, Mode, Request, Settings};
+use speldervacht::{open, order_words, step, table_words, Message, Mode, Request, Settings};
+use speldervacht_command::layout::Header;
 
 const ROWS: usize = 8;
 
@@ -88,17 +89,34 @@ fn a_size() {
 }
 
 #[test]
-fn a_list_that_was_not_taken() {
+fn a_message_that_was_not_taken() {
     let mut pair = Pair::new();
     at(&mut pair.lead, Request::Flush);
-    let (status, text) = pair.diff("list");
+    let (status, text) = pair.diff("message");
     assert_eq!(status, 1);
     let lines = told(&text);
-    assert_eq!(lines.len(), 4);
+    assert_eq!(lines.len(), 5);
     assert_eq!(lines[0], "record 100: lead clean, 1,000 bytes; standby dirty, 1,000 bytes");
-    assert_eq!(lines[3], "byte count: lead 0; standby 3,500");
-    at(&mut pair.standby, Request::Take { list: &[100, 200, 300] });
+    assert_eq!(lines[3..], ["byte count: lead 0; standby 3,500", "number of the next message: lead 2; standby 1"]);
+    at(&mut pair.standby, Request::Take { message: Message::new(1, &[100, 200, 300]).unwrap().as_bytes() });
     assert_eq!(pair.diff("taken").0, 0);
+    // An empty one counts too.
+    at(&mut pair.lead, Request::Sync);
+    let (status, text) = pair.diff("empty");
+    assert_eq!((status, told(&text)), (1, vec!["number of the next message: lead 3; standby 2"]));
+}
+
+/// Any number is sound, so a damaged one is told by diff alone.
+#[test]
+fn a_next_number_with_one_bit_different() {
+    let sound = Pair::new();
+    for bit in 0..64 {
+        let mut pair = Pair { lead: sound.lead.clone(), standby: sound.standby.clone() };
+        pair.lead[Header::Next.place()] ^= 1 << bit;
+        let (status, text) = pair.diff("next");
+        assert_eq!((status, told(&text).len()), (1, 1), "{text}");
+        assert!(told(&text)[0].starts_with("number of the next message: lead "), "{text}");
+    }
 }
 
 #[test]

@@ -12,7 +12,7 @@ mod store;
 
 use crate::wire::message::{Figures, Message, Resident};
 use control::Control;
-use speldervacht::{Cache, Decrease, Flash, Host, HostError, Increase, List, Mode, ReadGuard, Refusal, Settings};
+use speldervacht::{Cache, Decrease, Flash, Host, HostError, Increase, Mode, ReadGuard, Refusal, Settings};
 use std::collections::{BTreeMap, BTreeSet, VecDeque};
 use std::error::Error;
 use std::fmt::Display;
@@ -101,7 +101,7 @@ struct HostProcess {
     listener: Option<UnixListener>,
     link: Option<UnixStream>,
     /// A list that is sent after the next change, by mistake.
-    kept_back: Option<List>,
+    kept_back: Option<speldervacht::Message>,
 }
 
 /// The process of the host at a place, 0 or 1.
@@ -195,8 +195,8 @@ impl HostProcess {
             Message::Play { number, change } => self.share(number, &change)?,
             Message::Read { address, keep, pin } => return self.read(address, keep, pin),
             Message::LetGo => self.let_go()?,
-            Message::Flush => return self.send_list(true).map(|addresses| Message::Listed { addresses }),
-            Message::Sync => return self.send_list(false).map(|addresses| Message::Listed { addresses }),
+            Message::Flush => return self.send_list(true).map(|records| Message::Listed { records }),
+            Message::Sync => return self.send_list(false).map(|records| Message::Listed { records }),
             Message::Move => return self.move_world().map(|times| Message::Moved { times }),
             Message::Report => return self.figures(),
             Message::Tell => return Ok(self.told()),
@@ -260,6 +260,7 @@ impl HostProcess {
             maximum: report.maximum,
             count: report.count,
             due: report.due,
+            next: report.next,
             records: self.host.dirty().count() as u64,
         };
         Ok(Message::Reported { figures })

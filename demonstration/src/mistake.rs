@@ -2,7 +2,7 @@
 
 #[derive(Clone, Copy, Debug, PartialEq, Eq)]
 pub enum Mistake {
-    /// The standby drops every list.
+    /// The standby drops a list.
     DropList,
     /// The lead leaves out one write of a flush, and sends the list all the same.
     SkipWrite,
@@ -27,7 +27,7 @@ impl Mistake {
 
     pub fn text(self) -> &'static str {
         match self {
-            Mistake::DropList => "the standby drops every list from now on",
+            Mistake::DropList => "the standby drops a list",
             Mistake::SkipWrite => "the lead leaves out one write of a flush, and sends the list all the same",
             Mistake::EvictDirty => "the standby drops a dirty record as if it had been evicted",
             Mistake::Reorder => "the lead sends a list after the change that came next",

@@ -130,9 +130,9 @@ impl Referee {
         match answer {
             Message::Done => self.journal.both_had(),
             Message::Contents { address, bytes } => self.journal.check_read(place, address, &bytes)?,
-            Message::Listed { addresses } => {
+            Message::Listed { records } => {
                 self.course.lists += 1;
-                self.course.longest_list = self.course.longest_list.max(addresses.len() as u64);
+                self.course.longest_list = self.course.longest_list.max(records);
             }
             Message::Moved { times } => {
                 self.lead = 1 - self.lead;

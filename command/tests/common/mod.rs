@@ -1,7 +1,7 @@
 //! Small tables, random numbers and runs of the command, for the tests.
 #![allow(dead_code)]
 
-use speldervacht::{open, order_words, step, table_words, Decrease, Flash, Increase, Mode, Request, Settings};
+use speldervacht::{open, order_words, step, table_words, Decrease, Flash, Increase, Message, Mode, Request, Settings};
 use speldervacht_command::{run, Failure};
 use std::ffi::OsString;
 use std::path::PathBuf;
@@ -28,8 +28,9 @@ pub fn table(mode: Mode, settings: &Settings, rows: usize) -> Vec<u64> {
     let mut table = vec![0; table_words(rows)];
     let mut orders = vec![0; order_words(rows)];
     open(&mut table, rows, mode, 4_096, settings).unwrap();
+    let message = Message::new(1, &[0, 7]).unwrap();
     let clean = match mode {
-        Mode::Standby => Request::Take { list: &[0, 7] },
+        Mode::Standby => Request::Take { message: message.as_bytes() },
         _ => Request::Flush,
     };
     for request in [

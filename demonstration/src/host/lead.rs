@@ -5,7 +5,7 @@ use crate::mistake::Mistake;
 use crate::moment::Moment;
 use crate::wire::message::{Message, MoveTimes, MOST_AT_ONCE};
 use crate::wire::socket;
-use speldervacht::{Change, List, Mode, Refusal, Store};
+use speldervacht::{Change, Mode, Refusal, Store};
 use std::io::Write;
 use std::sync::Arc;
 use std::time::Instant;
@@ -52,7 +52,7 @@ impl HostProcess {
             match failure {
                 // What a list makes clean may be evicted. An empty one helps nobody.
                 Failure::Refused { number, .. } if number == Refusal::NoRow.number() => {
-                    if self.send_list(true)?.is_empty() {
+                    if self.send_list(true)? == 0 {
                         return Err(failure);
                     }
                 }
@@ -98,19 +98,21 @@ impl HostProcess {
         }
     }
 
-    /// A flush or a sync, whose list the standby takes: the addresses written.
-    pub(super) fn send_list(&mut self, flush: bool) -> Result<Vec<u64>, Failure> {
+    /// A flush or a sync, whose list the standby takes: how many records it names.
+    pub(super) fn send_list(&mut self, flush: bool) -> Result<u64, Failure> {
         let list = self.write_out(flush)?;
-        if !list.addresses().is_empty() && self.control.makes_once(Mistake::Reorder) {
-            self.kept_back = Some(list.clone());
+        let records = list.addresses().len() as u64;
+        if records > 0 && self.control.makes_once(Mistake::Reorder) {
+            self.kept_back = Some(list);
         } else {
             self.deliver(&list)?;
         }
-        Ok(list.addresses().to_vec())
+        Ok(records)
     }
 
-    /// Writes every dirty record, or enough of them, and syncs the file. A flush wants that nothing is held.
-    fn write_out(&mut self, flush: bool) -> Result<List, Failure> {
+    /// Writes every dirty record, or enough of them, and syncs the file: the message of what was written. A
+    /// flush wants that nothing is held.
+    fn write_out(&mut self, flush: bool) -> Result<speldervacht::Message, Failure> {
         self.stop_writing()?;
         let kind = if flush { "flush" } else { "sync" };
         self.control.note(|| format!("begins a {kind} with {} dirty records", self.host.dirty().count()));
@@ -118,16 +120,16 @@ impl HostProcess {
             self.readers.clear();
             self.host.flush()
         } else {
-            self.host.sync()
+            self.host.sync().map(Some)
         };
         let list = list.map_err(|error| self.failure("a list", error))?;
         self.control.stop_at(Moment::BeforeList);
-        Ok(list)
+        list.ok_or_else(|| self.failed("a list", "it does not lead"))
     }
 
-    fn deliver(&mut self, list: &List) -> Result<(), Failure> {
-        let message = Message::List { addresses: list.addresses().to_vec() };
-        self.control.note(|| format!("sends a list of {} records", list.addresses().len()));
+    fn deliver(&mut self, list: &speldervacht::Message) -> Result<(), Failure> {
+        let message = Message::List { message: list.as_bytes().to_vec() };
+        self.control.note(|| format!("sends message {}, a list of {} records", list.number(), list.addresses().len()));
         if self.control.reached(Moment::HalfList) {
             let frame = message.frame();
             let mut link = self.link.as_ref().ok_or(Failure::Alone)?;

@@ -5,7 +5,7 @@ use crate::mistake::Mistake;
 use crate::moment::Moment;
 use crate::wire::message::Message;
 use crate::wire::socket;
-use speldervacht::{Change, List, Mode};
+use speldervacht::{Change, Mode};
 
 impl HostProcess {
     /// Joins the lead of a pair, with a fresh cache.
@@ -29,7 +29,7 @@ impl HostProcess {
                 self.insert(&records)?;
                 self.control.stop_at(Moment::StandbyCatchingUp);
             }
-            Message::List { addresses } => self.take(List::from_words(addresses))?,
+            Message::List { message } => self.take(&message)?,
             Message::Switch => {
                 self.open(Mode::Lead)?;
                 self.control.stop_at(Moment::Switched);
@@ -39,13 +39,15 @@ impl HostProcess {
         Ok(Message::Done)
     }
 
-    fn take(&mut self, list: List) -> Result<(), Failure> {
+    fn take(&mut self, message: &[u8]) -> Result<(), Failure> {
         self.control.stop_at(Moment::BeforeTake);
-        if self.control.makes(Mistake::DropList) {
+        if self.control.makes_once(Mistake::DropList) {
             return Ok(());
         }
-        self.host.take(&list).map_err(|error| self.failure("a list", error))?;
-        self.control.note(|| format!("takes the list of {} records", list.addresses().len()));
+        let (number, dirty) = (self.host.cache().next_number(), self.host.dirty().count());
+        self.host.take(message).map_err(|error| self.failure("a list", error))?;
+        self.control
+            .note(|| format!("takes message {number}, a list of {} records", dirty - self.host.dirty().count()));
         Ok(())
     }
 

@@ -16,8 +16,9 @@ pub struct Sample {
 impl Sample {
     /// Whether the hosts agree as demand 3 has it.
     pub fn agrees(&self) -> bool {
+        let shared = |figures: Figures| (figures.dirty, figures.records, figures.count, figures.due, figures.next);
         let [one, other] = self.figures;
-        (one.dirty, one.records, one.count, one.due) == (other.dirty, other.records, other.count, other.due)
+        shared(one) == shared(other)
     }
 }
 

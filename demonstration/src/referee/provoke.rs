@@ -24,6 +24,7 @@ pub fn provoke(referee: &mut Referee, mistake: Mistake) -> Result<(), Failure> {
     match mistake {
         Mistake::DropList => {
             plan(referee, Part::Standby, mistake)?;
+            // The list after the one that is dropped does not have the next number.
             for _ in 0..AFTER {
                 referee.play(false)?;
             }

@@ -20,7 +20,7 @@ pub struct Resident {
     pub bytes: Vec<u8>,
 }
 
-/// The figures of a host's cache that the referee compares and draws, in bytes but for `records`.
+/// The figures of a host's cache that the referee compares and draws, in bytes but for `next` and `records`.
 #[derive(Clone, Copy, Debug, Default, PartialEq, Eq)]
 pub struct Figures {
     pub dirty: u64,
@@ -29,6 +29,8 @@ pub struct Figures {
     /// Made dirty since the last list, and whether a list is due.
     pub count: u64,
     pub due: bool,
+    /// The number of the next list's message.
+    pub next: u64,
     /// How many records are dirty.
     pub records: u64,
 }
@@ -108,8 +110,8 @@ messages! {
     // ---- to the referee
     15 Reported { figures: Figures };
     16 Moved { times: MoveTimes };
-    /// The addresses of a list that was sent.
-    17 Listed { addresses: Vec<u64> };
+    /// How many records a list names that was sent.
+    17 Listed { records: u64 };
     /// The last change of the play that was done here, and the records in memory.
     18 Told { last: u64, records: Vec<Resident> };
     /// A record as it was read.
@@ -127,7 +129,8 @@ messages! {
     24 Do { number: u64, change: Change };
     /// Some of the records with which a new standby catches up.
     25 Records { records: Vec<(u64, Arc<[u8]>)> };
-    26 List { addresses: Vec<u64> };
+    /// A list, as the bytes of the library's message.
+    26 List { message: Vec<u8> };
     /// The standby leads from now on.
     27 Switch;
 
@@ -168,9 +171,12 @@ mod tests {
             Message::Read { address, keep: true, pin: false },
             Message::Stop { moment: Moment::StandbyCatchingUp, after: 2 },
             Message::MakeMistake { mistake: Mistake::Reorder },
-            Message::Reported { figures: Figures { dirty: 1, held: 2, maximum: 3, count: 4, due: true, records: 5 } },
+            Message::Reported {
+                figures: Figures { dirty: 1, held: 2, maximum: 3, count: 4, due: true, next: 5, records: 6 },
+            },
             Message::Moved { times: MoveTimes { flush: 1, list: 2, switch: 3 } },
-            Message::Listed { addresses: vec![9, 8] },
+            Message::Listed { records: 9 },
+            Message::List { message: vec![9, 8] },
             Message::Told { last: 3, records: vec![record] },
             Message::Refused { number, text: "no".into() },
         ]);

@@ -94,7 +94,7 @@ macro_rules! fields {
 
 fields! {
     Resident { address, dirty, bytes }
-    Figures { dirty, held, maximum, count, due, records }
+    Figures { dirty, held, maximum, count, due, next, records }
     MoveTimes { flush, list, switch }
 }
 
