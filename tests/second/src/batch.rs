@@ -2,7 +2,7 @@
 
 use crate::boundary::{request_of, Asked};
 use crate::library::{self, Batched};
-use crate::model::{Model, Order, Refusal, Request};
+use crate::model::{Model, Order, Refusal, Request, NONE_LEFT};
 use std::ops::RangeInclusive;
 
 /// What a batch does: insert to sync.
@@ -16,7 +16,7 @@ const NO_CACHE: u64 = 1;
 const FEW_WORDS: u64 = 2;
 const NOT_IN_A_BATCH: u64 = 5;
 
-/// A request of three words has no settings and no list.
+/// A request of three words has no settings and no message.
 fn asked_of(words: &[u64]) -> Asked {
     Asked { kind: words[0], address: words[1], size: words[2], settings: [0; 22] }
 }
@@ -37,6 +37,8 @@ pub struct Came {
     /// For each request that was answered, its number and how many orders it gave.
     pub answers: Vec<[u64; ANSWER_WORDS]>,
     pub orders: Vec<Order>,
+    /// Whether one of its requests used the last number.
+    pub used_last: bool,
 }
 
 impl Came {
@@ -65,6 +67,7 @@ pub fn on_model(m: &mut Model, requests: &[u64], order_words: usize, answer_word
             came.number = FEW_WORDS;
             break;
         }
+        let number_before = m.next;
         match m.step(&plain_of(words), &[], order_words_left) {
             Err(Refusal { number: FEW_WORDS, .. }) => {
                 came.number = FEW_WORDS;
@@ -72,6 +75,7 @@ pub fn on_model(m: &mut Model, requests: &[u64], order_words: usize, answer_word
             }
             Err(Refusal { number, .. }) => came.answers.push([number, 0]),
             Ok(orders) => {
+                came.used_last |= number_before != NONE_LEFT && m.next == NONE_LEFT;
                 came.answers.push([0, orders.len() as u64]);
                 came.orders.extend(orders);
             }

@@ -14,6 +14,9 @@ pub struct Asked {
     pub settings: SettingsWords,
 }
 
+/// The taking of a message.
+pub const TAKE: Asked = Asked { kind: 12, address: 0, size: 0, settings: [0; 22] };
+
 pub const KINDS: [&str; 14] = [
     "unknown",
     "insert",

@@ -3,6 +3,8 @@
 use crate::batch::{self, Came, ANSWER_WORDS, REQUEST_WORDS};
 use crate::boundary::{mode_of, request_of, settings_of, Asked, SettingsWords};
 use crate::library::{self, Answer, Batched, Verdict};
+use crate::message;
+use crate::messages;
 use crate::model::{self, order_words, Model, Order, Refusal, Report};
 use crate::reached::{AskPlace, BatchPlace};
 use crate::table;
@@ -20,9 +22,9 @@ fn differ<T>(what: impl Into<String>, library: impl ToString, model: impl ToStri
     Err(Difference { what: what.into(), library: library.to_string(), model: model.to_string() })
 }
 
-fn same_list(list: &[u64], before: &[u64]) -> Result<(), Difference> {
-    if list != before {
-        return differ("the list", format!("{list:?}"), format!("{before:?}"));
+fn same_message(message: &[u8], before: &[u8]) -> Result<(), Difference> {
+    if message != before {
+        return differ("the message", message::text(message), message::text(before));
     }
     Ok(())
 }
@@ -99,20 +101,20 @@ impl Cache {
     }
 
     /// What a request would be answered; no word changes.
-    pub fn told(&self, lent: usize, order_lent: usize, list: &[u64], asked: &Asked) -> Result<Verdict, Difference> {
+    pub fn told(&self, lent: usize, order_lent: usize, message: &[u8], asked: &Asked) -> Result<Verdict, Difference> {
         let pictured = self.model.as_ref().filter(|m| lent >= table::table_words(m.rows));
-        let expected = match pictured.map(|m| m.refusal(&request_of(asked), list, order_lent)) {
+        let expected = match pictured.map(|m| m.refusal(&request_of(asked), message, order_lent)) {
             None => Verdict { number: 1, field: 0 },
             Some(None) => Verdict { number: 0, field: 0 },
             Some(Some(Refusal { number, field })) => Verdict { number, field },
         };
-        let list_before = list.to_vec();
-        let told = library::ask(&self.table[..lent], order_lent, list, asked);
+        let message_before = message.to_vec();
+        let told = library::ask(&self.table[..lent], order_lent, message, asked);
         if told != expected {
             return differ("what asking tells", told, expected);
         }
         self.expected_words_stand()?;
-        same_list(list, &list_before)?;
+        same_message(message, &message_before)?;
         Ok(told)
     }
 
@@ -121,11 +123,11 @@ impl Cache {
         &self,
         lent: usize,
         order_lent: usize,
-        list: &[u64],
+        message: &[u8],
         asked: &Asked,
         tally: &mut Tally,
     ) -> Result<Verdict, Difference> {
-        let told = self.told(lent, order_lent, list, asked)?;
+        let told = self.told(lent, order_lent, message, asked)?;
         let mut mark = |place| tally.asked.mark(place);
         mark(AskPlace::Asked);
         mark(if told.number == 0 { AskPlace::ToldYes } else { AskPlace::ToldRefusal });
@@ -151,14 +153,17 @@ impl Cache {
         &mut self,
         lent: usize,
         order_lent: usize,
-        list: &[u64],
+        message: &[u8],
         asked: &Asked,
         tally: &mut Tally,
     ) -> Result<(Answer, Vec<Order>), Difference> {
-        let told = self.told(lent, order_lent, list, asked)?;
+        let told = self.told(lent, order_lent, message, asked)?;
         let request = request_of(asked);
         let pictured = self.model.as_mut().filter(|m| lent >= table::table_words(m.rows));
-        let (expected, orders) = match pictured.map(|m| m.step(&request, list, order_lent)) {
+        if let Some(m) = &pictured {
+            messages::count(m, asked.kind, message, told.number, tally);
+        }
+        let (expected, orders) = match pictured.map(|m| m.step(&request, message, order_lent)) {
             None => (Answer { number: 1, field: 0, orders: 0 }, Vec::new()),
             Some(Err(r)) => (Answer { number: r.number, field: r.field, orders: 0 }, Vec::new()),
             Some(Ok(orders)) => {
@@ -170,8 +175,8 @@ impl Cache {
                 (Answer { number: 0, field: 0, orders: orders.len() as u64 }, orders)
             }
         };
-        let list_before = list.to_vec();
-        let answer = library::step(&mut self.table[..lent], &mut self.orders[..order_lent], list, asked);
+        let message_before = message.to_vec();
+        let answer = library::step(&mut self.table[..lent], &mut self.orders[..order_lent], message, asked);
         if answer != expected {
             return differ("the answer", answer, expected);
         }
@@ -179,7 +184,7 @@ impl Cache {
             return differ("the answer beside what asking told before", answer, told);
         }
         self.expected_words_stand()?;
-        same_list(list, &list_before)?;
+        same_message(message, &message_before)?;
         tally.answer(if asked.kind <= 13 { asked.kind as usize } else { 0 }, &answer);
         self.hand_in(tally);
         self.report(self.table.len(), tally)?;
@@ -272,7 +277,9 @@ impl Cache {
         let first_refused = came.answers.iter().position(|[number, _]| *number != 0);
         let last_accepted = came.answers.iter().rposition(|[number, _]| *number == 0);
         mark(BatchPlace::RefusedInside, first_refused.is_some_and(|refused| Some(refused) < last_accepted));
+        mark(BatchPlace::LastNumberInside, came.used_last);
         for (words, [number, _]) in requests.chunks_exact(REQUEST_WORDS).zip(&came.answers) {
+            mark(BatchPlace::BatchNoneLeft, *number == 16);
             mark(BatchPlace::BatchRequest, true);
             mark(if *number == 0 { BatchPlace::BatchAccepted } else { BatchPlace::BatchRefused }, true);
             match words[0] {
@@ -294,6 +301,7 @@ impl Cache {
             minimum_clean: 0,
             count: 0,
             due: false,
+            next: 0,
             totals: [0; 11],
         };
         let expected = match pictured {

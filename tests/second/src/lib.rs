@@ -3,8 +3,11 @@
 pub mod batch;
 pub mod boundary;
 pub mod cache;
+pub mod damaged;
 pub mod ledger;
 pub mod library;
+pub mod message;
+pub mod messages;
 pub mod model;
 pub mod pair;
 pub mod random;
@@ -14,3 +17,4 @@ pub mod run;
 pub mod shrink;
 pub mod table;
 pub mod tally;
+pub mod writer;

@@ -26,6 +26,13 @@ pub struct Batched {
     pub orders: u64,
 }
 
+/// What a writing came to.
+#[derive(Clone, Copy, Debug, PartialEq, Eq)]
+pub struct Written {
+    pub number: u64,
+    pub bytes: u64,
+}
+
 impl Answer {
     pub fn verdict(&self) -> Verdict {
         Verdict { number: self.number, field: self.field }
@@ -59,6 +66,12 @@ impl std::fmt::Display for Answer {
 impl std::fmt::Display for Batched {
     fn fmt(&self, f: &mut std::fmt::Formatter) -> std::fmt::Result {
         write!(f, "number {}, {} requests answered, {} orders", self.number, self.done, self.orders)
+    }
+}
+
+impl std::fmt::Display for Written {
+    fn fmt(&self, f: &mut std::fmt::Formatter) -> std::fmt::Result {
+        write!(f, "{}, {} bytes", Verdict { number: self.number, field: 0 }, self.bytes)
     }
 }
 
@@ -99,20 +112,20 @@ fn request_of(asked: &Asked) -> raw::Request {
     raw::Request { kind, address, size, settings: settings_of(settings) }
 }
 
-/// No words are lent as NULL.
-fn start(words: &[u64]) -> *const u64 {
-    if words.is_empty() {
+/// No words or bytes are lent as NULL.
+fn start<T>(lent: &[T]) -> *const T {
+    if lent.is_empty() {
         std::ptr::null()
     } else {
-        words.as_ptr()
+        lent.as_ptr()
     }
 }
 
-fn start_mut(words: &mut [u64]) -> *mut u64 {
-    if words.is_empty() {
+fn start_mut<T>(lent: &mut [T]) -> *mut T {
+    if lent.is_empty() {
         std::ptr::null_mut()
     } else {
-        words.as_mut_ptr()
+        lent.as_mut_ptr()
     }
 }
 
@@ -122,7 +135,7 @@ pub fn open(table: &mut [u64], rows: u64, mode: u64, threshold: u64, settings: &
     answer_of(unsafe { raw::speldervacht_open(start_mut(table), length, rows, mode, threshold, settings_of(settings)) })
 }
 
-pub fn step(table: &mut [u64], orders: &mut [u64], list: &[u64], asked: &Asked) -> Answer {
+pub fn step(table: &mut [u64], orders: &mut [u64], message: &[u8], asked: &Asked) -> Answer {
     let (table_words, order_words) = (table.len(), orders.len());
     // SAFETY: the slices are ours for the call, and borrowed apart.
     answer_of(unsafe {
@@ -131,8 +144,8 @@ pub fn step(table: &mut [u64], orders: &mut [u64], list: &[u64], asked: &Asked) 
             table_words,
             start_mut(orders),
             order_words,
-            start(list),
-            list.len(),
+            start(message),
+            message.len(),
             request_of(asked),
         )
     })
@@ -156,10 +169,10 @@ pub fn batch(table: &mut [u64], orders: &mut [u64], requests: &[u64], answers: &
     Batched { number: b.number, done: b.done, orders: b.orders }
 }
 
-pub fn ask(table: &[u64], order_words: usize, list: &[u64], asked: &Asked) -> Verdict {
+pub fn ask(table: &[u64], order_words: usize, message: &[u8], asked: &Asked) -> Verdict {
     // SAFETY: the slices are borrowed for the call.
     let v = unsafe {
-        raw::speldervacht_ask(start(table), table.len(), order_words, start(list), list.len(), request_of(asked))
+        raw::speldervacht_ask(start(table), table.len(), order_words, start(message), message.len(), request_of(asked))
     };
     Verdict { number: v.number, field: v.field }
 }
@@ -176,7 +189,15 @@ pub fn report(table: &[u64]) -> (u64, Report, u64) {
         minimum_clean: f.clean,
         count: f.count,
         due: f.due == 1,
+        next: f.next,
         totals: f.totals,
     };
     (f.number, report, f.due)
+}
+
+pub fn write_message(bytes: &mut [u8], number: u64, list: &[u64]) -> Written {
+    let byte_count = bytes.len();
+    // SAFETY: the slices are ours for the call, and borrowed apart.
+    let w = unsafe { raw::speldervacht_write_message(start_mut(bytes), byte_count, number, start(list), list.len()) };
+    Written { number: w.number, bytes: w.bytes }
 }

@@ -1,17 +1,20 @@
-//! Compares long random runs of the library with the model.
+//! Compares long random runs of the library with the model, then damaged messages and the writer.
 //!
 //!     second [SEED [REQUESTS]]
 //!
 //! A difference is printed with the shortest run found that shows it, and ends the program with 1. So
-//! does a place that no run reached, unless fewer requests are asked for than by default.
+//! does a place that no run reached, unless fewer requests are asked for than by default. With fewer or
+//! more requests, messages and writings are fewer or more likewise.
 
 use second::cache::Difference;
+use second::damaged;
+use second::messages::Message;
 use second::pair::{self, Aside, Pair};
 use second::random::Random;
 use second::run::{self, Event, Run};
-use second::shrink::shrink;
+use second::shrink::{shrink, shrink_message};
 use second::tally::Tally;
-use std::fmt::Display;
+use second::writer::{self, Writing};
 use std::process::ExitCode;
 use std::time::Instant;
 
@@ -19,6 +22,10 @@ const SEED: u64 = 1;
 const REQUESTS: u64 = 2_000_000;
 /// Of these, one of so many is asked in a large table, after the small ones.
 const LARGE_SHARE: u64 = 400;
+/// Damaged messages, lists written, and messages read back, for as many requests.
+const MESSAGES: u64 = 12_000_000;
+const WRITINGS: u64 = 20_000;
+const READ_BACK: u64 = 2_000;
 
 /// The run, without what its difference does not need.
 fn shortest_run(mut run: Run, first: Difference) -> (Run, Difference) {
@@ -47,6 +54,13 @@ fn shortest_run(mut run: Run, first: Difference) -> (Run, Difference) {
                     part: part.clone(),
                 };
                 run = with(batch(&shrink(requests, |requests| shows(batch(requests)))));
+            }
+            Event::Step { lent, order_lent, message, asked } => {
+                let step = |bytes: &[u8]| {
+                    let message = Message { way: None, bytes: bytes.to_vec() };
+                    Event::Step { lent, order_lent, message, asked }
+                };
+                run = with(step(&shrink_message(message.bytes, |bytes| shows(step(bytes)))));
             }
             _ => {}
         }
@@ -79,11 +93,72 @@ fn shortest_pair(mut pair: Pair, first: Difference) -> (Pair, Difference) {
     (pair, difference)
 }
 
-fn print_difference(number: u64, events: usize, run: impl Display, difference: &Difference) {
-    println!("\nrun {number} differs; the shortest run found has {events} events:\n\n{run}");
-    println!("{}", difference.what);
-    println!("  library: {}", difference.library);
-    println!("  model:   {}", difference.model);
+/// A difference with the shortest that was found to show it.
+struct Found {
+    title: String,
+    shown: String,
+    difference: Difference,
+}
+
+fn found_run(what: &str, (run, first): (Run, Difference)) -> Found {
+    println!("a difference: {}", first.what);
+    let (run, difference) = shortest_run(run, first);
+    Found { title: title(what, run.events.len()), shown: run.to_string(), difference }
+}
+
+fn found_pair(what: &str, (pair, first): (Pair, Difference)) -> Found {
+    println!("a difference: {}", first.what);
+    let (pair, difference) = shortest_pair(pair, first);
+    Found { title: title(what, pair.events.len()), shown: pair.to_string(), difference }
+}
+
+fn found_writing((writing, first): (Writing, Difference)) -> Found {
+    println!("a difference: {}", first.what);
+    let writing = writing.shortest();
+    let difference = writing.compare().err().unwrap_or(first);
+    Found { title: "a list is written otherwise".to_string(), shown: writing.to_string(), difference }
+}
+
+fn title(what: &str, events: usize) -> String {
+    format!("{what} differs; the shortest run found has {events} events")
+}
+
+impl Found {
+    fn print(&self) {
+        println!("\n{}:\n\n{}", self.title, self.shown);
+        println!("{}", self.difference.what);
+        println!("  library: {}", self.difference.library);
+        println!("  model:   {}", self.difference.model);
+    }
+}
+
+/// Runs of one cache and of pairs, until so many requests were made.
+fn play_runs(r: &mut Random, requests: u64, tally: &mut Tally) -> Result<(), Found> {
+    while tally.requests < requests {
+        let number = tally.runs;
+        let run_seed = r.word();
+        let large = tally.requests >= requests - requests / LARGE_SHARE;
+        let what = format!("run {number}");
+        if !large && r.chance(30) {
+            pair::play(run_seed, tally).map_err(|differs| found_pair(&what, *differs))?;
+        } else {
+            run::play(run_seed, large, tally).map_err(|differs| found_run(&what, *differs))?;
+        }
+    }
+    println!(
+        "{} requests in {} runs, of them {} requests in {} runs with 4,096 rows",
+        tally.requests, tally.runs, tally.largest_requests, tally.largest_runs,
+    );
+    Ok(())
+}
+
+/// Damaged messages, lists written, and messages read back, as many as befit the requests.
+fn play_messages(r: &mut Random, requests: u64, tally: &mut Tally) -> Result<(), Found> {
+    let many = |of_all: u64| (of_all as f64 * (requests as f64 / REQUESTS as f64)) as u64;
+    damaged::play(r.word(), many(MESSAGES), tally).map_err(|differs| found_run("a message", *differs))?;
+    println!("{} messages at standbys with few rows", tally.offered);
+    writer::play(r.word(), many(WRITINGS), tally).map_err(|differs| found_writing(*differs))?;
+    writer::play_back(r.word(), many(READ_BACK), tally).map_err(|differs| found_run("what was written", *differs))
 }
 
 fn argument(at: usize, default: u64) -> Result<u64, String> {
@@ -105,36 +180,13 @@ fn main() -> ExitCode {
     let start = Instant::now();
     let mut r = Random::new(seed);
     let mut tally = Tally::default();
-    while tally.requests < requests {
-        let number = tally.runs;
-        let run_seed = r.word();
-        let large = tally.requests >= requests - requests / LARGE_SHARE;
-        if !large && r.chance(30) {
-            if let Err(differs) = pair::play(run_seed, &mut tally) {
-                let (pair, first) = *differs;
-                println!("a difference: {}", first.what);
-                let (pair, difference) = shortest_pair(pair, first);
-                print_difference(number, pair.events.len(), &pair, &difference);
-                println!("\nto see it again: second {seed} {requests}");
-                return ExitCode::FAILURE;
-            }
-        } else if let Err(differs) = run::play(run_seed, large, &mut tally) {
-            let (run, first) = *differs;
-            println!("a difference: {}", first.what);
-            let (run, difference) = shortest_run(run, first);
-            print_difference(number, run.events.len(), &run, &difference);
-            println!("\nto see it again: second {seed} {requests}");
-            return ExitCode::FAILURE;
-        }
+    let outcome = play_runs(&mut r, requests, &mut tally).and_then(|()| play_messages(&mut r, requests, &mut tally));
+    if let Err(found) = outcome {
+        found.print();
+        println!("\nto see it again: second {seed} {requests}");
+        return ExitCode::FAILURE;
     }
-    println!(
-        "{} requests in {} runs, of them {} requests in {} runs with 4,096 rows; {:.1} s",
-        tally.requests,
-        tally.runs,
-        tally.largest_requests,
-        tally.largest_runs,
-        start.elapsed().as_secs_f64()
-    );
+    println!("{:.1} s", start.elapsed().as_secs_f64());
     tally.print();
     println!("\nno difference");
     let missed = tally.never_reached();

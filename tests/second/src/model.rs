@@ -1,6 +1,7 @@
 //! The cache as the rules describe it: entries by address, and a queue of addresses for the recency
 //! list. Sums are taken anew wherever they are needed.
 
+use crate::message::{self, Fault, Numbered};
 use crate::reached::{Place, Reached};
 use std::collections::{BTreeMap, BTreeSet, VecDeque};
 
@@ -11,6 +12,11 @@ pub const THRESHOLD_LIMIT: u64 = 1_073_741_824;
 pub const COUNT_STOP: u64 = 1_099_511_627_776;
 pub const READER_LIMIT: u32 = 65_535;
 pub const IDLE_LIMIT: u64 = 10;
+/// The number of a cache's first message.
+pub const FIRST_NUMBER: u64 = 1;
+pub const LAST_NUMBER: u64 = u64::MAX;
+/// The next number where none is left.
+pub const NONE_LEFT: u64 = 0;
 
 /// The words that the orders of one request may need.
 pub fn order_words(rows: usize) -> usize {
@@ -272,6 +278,7 @@ pub struct Report {
     pub minimum_clean: u64,
     pub count: u64,
     pub due: bool,
+    pub next: u64,
     pub totals: [u64; 11],
 }
 
@@ -285,6 +292,8 @@ pub struct Model {
     pub accesses: u64,
     pub hits: u64,
     pub count: u64,
+    /// The number of the next message that a lead sends or a standby takes.
+    pub next: u64,
     pub entries: BTreeMap<u64, Entry>,
     /// Front is the head, back is the tail.
     pub recency: VecDeque<u64>,
@@ -324,6 +333,7 @@ pub fn open(
         accesses: 0,
         hits: 0,
         count: 0,
+        next: FIRST_NUMBER,
         entries: BTreeMap::new(),
         recency: VecDeque::new(),
         reached: Reached::default(),
@@ -354,6 +364,7 @@ impl Model {
             minimum_clean: self.minimum_clean(),
             count: self.count,
             due: self.count > self.threshold,
+            next: self.next,
             totals,
         }
     }
@@ -599,6 +610,31 @@ impl Model {
         self.count = (self.count + size).min(COUNT_STOP);
     }
 
+    /// Uses up the number of a message that is sent or taken.
+    fn use_number(&mut self, list_is_empty: bool) {
+        let [used, by_empty, last] = match self.mode {
+            Mode::Lead => [Place::Sent, Place::SentEmpty, Place::SentLast],
+            _ => [Place::Taken, Place::TakenEmpty, Place::TakenLast],
+        };
+        self.reached.mark(used);
+        if list_is_empty {
+            self.reached.mark(by_empty);
+        }
+        if self.next == LAST_NUMBER {
+            self.reached.mark(last);
+            self.next = NONE_LEFT;
+        } else {
+            self.next += 1;
+        }
+    }
+
+    /// A lead's flush or sync sends the list of its write orders.
+    fn send(&mut self, orders: &[Order]) {
+        if self.mode == Mode::Lead {
+            self.use_number(orders.is_empty());
+        }
+    }
+
     fn may_give_orders(request: &Request) -> bool {
         matches!(
             request,
@@ -625,8 +661,30 @@ impl Model {
         }
     }
 
-    /// The refusal of a request, judged on the state before it.
-    pub fn refusal(&self, request: &Request, list: &[u64], lent: usize) -> Option<Refusal> {
+    /// The refusal of a taken message: its mode, the message's form, its number and its addresses are
+    /// judged in this order.
+    fn refusal_of_take(&self, message: &[u8]) -> Option<u64> {
+        if self.mode != Mode::Standby {
+            return Some(5);
+        }
+        let Numbered { number, list } = match message::read(message) {
+            Ok(numbered) => numbered,
+            Err(Fault::WrongByte) => return Some(15),
+            Err(Fault::EndsEarly) => return Some(14),
+        };
+        if self.next == NONE_LEFT || number != self.next {
+            return Some(16);
+        }
+        if list.contains(&ALL_ONES) {
+            return Some(3);
+        }
+        let mut seen = BTreeSet::new();
+        let is_dirty = |a: &u64| self.entries.get(a).is_some_and(|e| e.dirty);
+        list.iter().any(|a| !is_dirty(a) || !seen.insert(*a)).then_some(13)
+    }
+
+    /// The refusal of a request, judged on the state before it: the lowest that applies, but for take.
+    pub fn refusal(&self, request: &Request, message: &[u8], lent: usize) -> Option<Refusal> {
         let mut found: Vec<(u64, u64)> = Vec::new();
         let mut refuse = |when: bool, number: u64| {
             if when {
@@ -707,13 +765,16 @@ impl Model {
             Request::Flush => {
                 refuse(self.mode == Mode::Standby, 5);
                 refuse(self.entries.values().any(|e| e.hold != Hold::Free), 8);
+                refuse(self.mode == Mode::Lead && self.next == NONE_LEFT, 16);
             }
-            Request::Sync => refuse(self.mode != Mode::Lead, 5),
+            Request::Sync => {
+                refuse(self.mode != Mode::Lead, 5);
+                refuse(self.next == NONE_LEFT, 16);
+            }
             Request::Take => {
-                refuse(list.contains(&ALL_ONES), 3);
-                refuse(self.mode != Mode::Standby, 5);
-                let mut seen = BTreeSet::new();
-                refuse(list.iter().any(|a| !seen.insert(*a) || !entry(*a).is_some_and(|e| e.dirty)), 13);
+                if let Some(number) = self.refusal_of_take(message) {
+                    refuse(true, number);
+                }
             }
             Request::Configure(s) => {
                 if let Some(field) = s.bad_field(false) {
@@ -726,8 +787,8 @@ impl Model {
     }
 
     /// One request: its orders, or its refusal with nothing changed.
-    pub fn step(&mut self, request: &Request, list: &[u64], lent: usize) -> Result<Vec<Order>, Refusal> {
-        if let Some(r) = self.refusal(request, list, lent) {
+    pub fn step(&mut self, request: &Request, message: &[u8], lent: usize) -> Result<Vec<Order>, Refusal> {
+        if let Some(r) = self.refusal(request, message, lent) {
             return Err(r);
         }
         let mut orders = Vec::new();
@@ -797,16 +858,20 @@ impl Model {
                     self.write(a, &mut orders);
                 }
                 self.count = 0;
+                self.send(&orders);
             }
             Request::Sync => {
                 self.write_until_share_is_met(0, &mut orders);
                 self.count = 0;
+                self.send(&orders);
             }
             Request::Take => {
-                for a in list {
+                let Numbered { list, .. } = message::read(message).expect("a message");
+                for a in &list {
                     self.entries.get_mut(a).unwrap().dirty = false;
                 }
                 self.count = 0;
+                self.use_number(list.is_empty());
             }
             Request::Configure(s) => {
                 self.settings = s;

@@ -1,16 +1,21 @@
 //! A random run of a lead and a standby, beside the ledger.
 
-use crate::boundary::{request_of, Asked, SettingsWords};
+use crate::boundary::{self, request_of, Asked, SettingsWords};
 use crate::cache::{Cache, Difference};
 use crate::ledger::Ledger;
 use crate::library::{self, Answer};
-use crate::model::{order_words, Entry, Hold, Model, Order, Refusal, ALL_ONES, COUNT_STOP, THRESHOLD_LIMIT};
+use crate::message::{self, Numbered};
+use crate::messages::{self, Addressee};
+use crate::model::{
+    order_words, Entry, Hold, Model, Order, Refusal, ALL_ONES, COUNT_STOP, FIRST_NUMBER, NONE_LEFT, THRESHOLD_LIMIT,
+};
 use crate::random::Random;
 use crate::reached::PairPlace;
 use crate::requests::{self, Phase, Scale};
 use crate::run::{asked_text, settings_text};
-use crate::table::{table_words, HEADER, ROW};
+use crate::table::{table_words, HEADER, NEXT, ROW};
 use crate::tally::Tally;
+use crate::writer;
 use std::collections::{BTreeMap, BTreeSet};
 
 const LEAD: usize = 0;
@@ -36,7 +41,7 @@ const CONFIGURE: u64 = 13;
 pub struct Aside {
     host: usize,
     asked: Asked,
-    list: Vec<u64>,
+    message: Vec<u8>,
     /// How many order words too few are lent.
     short: usize,
 }
@@ -50,7 +55,7 @@ pub enum Event {
     /// requests of that host alone, then the other gets it. `after` is what was done to make both say
     /// yes since they were asked last.
     ByAsking { asked: Asked, first: usize, between: Vec<Aside>, after: Option<Help> },
-    /// A flush or a sync of the lead, requests of either, and then the standby takes the list.
+    /// A flush or a sync of the lead, requests of either, and then the standby takes the list's message.
     List { asked: Asked, between: Vec<Aside> },
     /// A request at a settled point.
     Aside(Aside),
@@ -82,6 +87,8 @@ impl Event {
 #[derive(Clone, Debug)]
 pub struct Pair {
     pub threshold: u64,
+    /// The number of the first message, put into both tables where it is not that of a fresh cache.
+    pub first_number: u64,
     pub rows: [usize; 2],
     pub settings: [SettingsWords; 2],
     /// Whether each shared change is asked of both before it is done.
@@ -113,11 +120,11 @@ fn hear(models: &mut Models, aside: &Aside) -> bool {
     let (request, lent) = (request_of(&aside.asked), order_words(m.rows).saturating_sub(aside.short));
     match aside.asked.kind {
         PROTECT_FOR_READING | PROTECT_FOR_WRITING | RELEASE_UNCHANGED | PIN | UNPIN | CONFIGURE => {
-            let _ = m.step(&request, &aside.list, lent);
+            let _ = m.step(&request, &aside.message, lent);
             true
         }
         INSERT | RELEASE_CHANGED | RESIZE | DISCARD => false,
-        _ => m.refusal(&request, &aside.list, lent).is_some(),
+        _ => m.refusal(&request, &aside.message, lent).is_some(),
     }
 }
 
@@ -151,8 +158,9 @@ struct Hosts {
     caches: [Cache; 2],
     ledger: Ledger,
     threshold: u64,
-    /// The list that the standby took last.
-    taken: Vec<u64>,
+    first_number: u64,
+    /// The messages that the lead sent and the standby took, the earliest first.
+    taken: Vec<Vec<u8>>,
     /// The change that both were asked about last, if it was not done, and how often it was asked.
     left: Option<(Asked, usize)>,
 }
@@ -165,9 +173,18 @@ impl Hosts {
             // Lead is mode 1, standby is mode 2.
             let mode = host as u64 + 1;
             cache.open(table_words(rows), rows as u64, mode, pair.threshold, &pair.settings[host], tally)?;
+            if pair.first_number != FIRST_NUMBER {
+                cache.put(&[(NEXT, pair.first_number)], tally);
+            }
         }
-        let hosts =
-            Hosts { caches, ledger: Ledger::default(), threshold: pair.threshold, taken: Vec::new(), left: None };
+        let hosts = Hosts {
+            caches,
+            ledger: Ledger::default(),
+            threshold: pair.threshold,
+            first_number: pair.first_number,
+            taken: Vec::new(),
+            left: None,
+        };
         hosts.agree(tally)?;
         Ok(hosts)
     }
@@ -206,14 +223,16 @@ impl Hosts {
         &mut self,
         host: usize,
         asked: &Asked,
-        list: &[u64],
+        message: &[u8],
         short: usize,
         tally: &mut Tally,
     ) -> Result<(Answer, Vec<Order>), Difference> {
         let cache = &mut self.caches[host];
         let order_lent = cache.orders.len().saturating_sub(short);
-        cache.step(cache.table.len(), order_lent, list, asked, tally).map_err(|mut d| {
-            d.what = format!("{}: {}", NAMES[host], d.what);
+        cache.step(cache.table.len(), order_lent, message, asked, tally).map_err(|mut d| {
+            let at_take =
+                if asked.kind == TAKE { format!(", at {}", asked_text(asked, message)) } else { String::new() };
+            d.what = format!("{}: {}{at_take}", NAMES[host], d.what);
             d
         })
     }
@@ -300,8 +319,8 @@ impl Hosts {
     }
 
     fn aside(&mut self, aside: &Aside, when: When, tally: &mut Tally) -> Result<(), Difference> {
-        let Aside { host, asked, list, short } = aside;
-        let (answer, _) = self.step(*host, asked, list, *short, tally)?;
+        let Aside { host, asked, message, short } = aside;
+        let (answer, _) = self.step(*host, asked, message, *short, tally)?;
         let mut mark = |place| tally.pairs.mark(place);
         if answer.number == 0 {
             mark(PairPlace::Local);
@@ -325,20 +344,73 @@ impl Hosts {
             (LEAD, TAKE) => mark(PairPlace::TakeByLead),
             (STANDBY, FLUSH) => mark(PairPlace::FlushByStandby),
             (STANDBY, SYNC) => mark(PairPlace::SyncByStandby),
-            (STANDBY, TAKE) => {
-                mark(match list {
-                    list if list.contains(&ALL_ONES) => PairPlace::ListWithAllOnes,
-                    list if list.iter().collect::<BTreeSet<_>>().len() < list.len() => PairPlace::ListWithTwice,
-                    list if *list == self.taken => PairPlace::ListTakenBefore,
-                    _ => PairPlace::ListWithClean,
-                });
-                if when == When::BeforeTaking {
-                    mark(PairPlace::WrongListFirst);
-                }
-            }
+            (STANDBY, TAKE) => self.message_refused(message, &answer, when, tally)?,
             _ => {}
         }
         Ok(())
+    }
+
+    /// Counts a message that the standby refused. One that was taken before is refused for its number.
+    fn message_refused(
+        &self,
+        message: &[u8],
+        answer: &Answer,
+        when: When,
+        tally: &mut Tally,
+    ) -> Result<(), Difference> {
+        let mut mark = |place| tally.pairs.mark(place);
+        if when == When::BeforeTaking {
+            mark(PairPlace::WrongMessageFirst);
+        }
+        if self.taken.iter().any(|taken| taken == message) {
+            mark(PairPlace::TakenBefore);
+            if when == When::BeforeTaking {
+                mark(PairPlace::TakenBeforeFirst);
+            }
+            return match answer.number {
+                16 => Ok(()),
+                _ => Err(Difference {
+                    what: "the standby: a message that it took before".to_string(),
+                    library: answer.to_string(),
+                    model: "refused 16".to_string(),
+                }),
+            };
+        }
+        let next = self.model(STANDBY).next;
+        mark(match (answer.number, message::read(message)) {
+            (3, _) => PairPlace::MessageWithAllOnes,
+            (13, Ok(Numbered { list, .. })) if list.iter().collect::<BTreeSet<_>>().len() < list.len() => {
+                PairPlace::MessageWithTwice
+            }
+            (13, _) => PairPlace::MessageWithClean,
+            (14, _) => PairPlace::MessageCut,
+            (15, _) => PairPlace::MessageDamaged,
+            _ if next == NONE_LEFT => PairPlace::NoneLeftToTake,
+            (_, Ok(Numbered { number, .. })) if number > next && when == When::BeforeTaking => PairPlace::LaterFirst,
+            (_, Ok(Numbered { number, .. })) if number > next => PairPlace::Later,
+            _ => PairPlace::OtherNumber,
+        });
+        Ok(())
+    }
+
+    /// Sends a list: its message as the library writes it, with the number that the lead reported before.
+    fn send(&mut self, number: u64, list: &[u64], tally: &mut Tally) -> Result<(), Difference> {
+        let message = writer::written(number, list)?;
+        let (by_standby, _) = self.step(STANDBY, &boundary::TAKE, &message, 0, tally)?;
+        must_accept(&by_standby, || "the standby: a message that was sent".to_string())?;
+        self.ledger.list(list);
+        self.taken.push(message);
+        tally.longest_list = tally.longest_list.max(list.len() as u64);
+        tally.pairs.mark(PairPlace::ListTaken);
+        if self.next_number() == NONE_LEFT {
+            tally.pairs.mark(PairPlace::LastTaken);
+        }
+        Ok(())
+    }
+
+    /// The next number after the first and one for each list.
+    fn next_number(&self) -> u64 {
+        self.first_number.checked_add(self.taken.len() as u64).unwrap_or(NONE_LEFT)
     }
 
     fn happen(&mut self, event: &Event, tally: &mut Tally) -> Result<(), Difference> {
@@ -372,26 +444,23 @@ impl Hosts {
                 self.by_asking(asked, *first, between, *after, tally)?;
             }
             Event::List { asked, between } => {
+                let (_, before, _) = library::report(&self.caches[LEAD].table);
                 let (by_lead, orders) = self.step(LEAD, asked, &[], 0, tally)?;
                 let sent = by_lead.number == 0;
                 for aside in between {
                     self.aside(aside, if sent { When::BeforeTaking } else { When::Settled }, tally)?;
                 }
                 if sent {
-                    let list = list_of(&orders);
-                    let take = Asked { kind: TAKE, address: 0, size: 0, settings: [0; 22] };
-                    let (by_standby, _) = self.step(STANDBY, &take, &list, 0, tally)?;
-                    must_accept(&by_standby, || "the standby: a list that was sent".to_string())?;
-                    self.ledger.list(&list);
-                    tally.pairs.mark(PairPlace::ListTaken);
+                    self.send(before.next, &list_of(&orders), tally)?;
                     if !between.is_empty() {
                         tally.pairs.mark(PairPlace::RequestsBeforeTaking);
                     }
-                    tally.longest_list = tally.longest_list.max(list.len() as u64);
-                    self.taken = list;
                 } else {
                     tally.pairs.mark(PairPlace::Refused);
                     tally.pairs.mark(PairPlace::FlushRefusedByLead);
+                    if by_lead.number == 16 {
+                        tally.pairs.mark(PairPlace::NoneLeftToSend);
+                    }
                 }
             }
             Event::Aside(aside) => self.aside(aside, When::Settled, tally)?,
@@ -405,13 +474,17 @@ impl Hosts {
             let rows = &cache.table[HEADER..HEADER + cache.table[1] as usize * ROW];
             let dirty: BTreeMap<u64, u64> = rows.chunks(ROW).filter(|w| w[2] == 1).map(|w| (w[0], w[1])).collect();
             let (_, report, _) = library::report(&cache.table);
-            let said = (dirty, report.count, report.due);
             let due = self.ledger.count > self.threshold;
-            if (&said.0, said.1, said.2) != (&self.ledger.records, self.ledger.count, due) {
+            let said = (&dirty, report.count, report.due, report.next);
+            let expected = (&self.ledger.records, self.ledger.count, due, self.next_number());
+            if said != expected {
                 return Err(Difference {
-                    what: format!("{}: dirty records, byte count and due beside the ledger's", NAMES[host]),
+                    what: format!(
+                        "{}: dirty records, byte count, due and next number beside the ledger's",
+                        NAMES[host]
+                    ),
                     library: format!("{said:?}"),
-                    model: format!("{:?}", (&self.ledger.records, self.ledger.count, due)),
+                    model: format!("{expected:?}"),
                 });
             }
         }
@@ -421,6 +494,9 @@ impl Hosts {
         }
         if self.ledger.count > self.threshold {
             tally.pairs.mark(PairPlace::SettledDue);
+        }
+        if self.next_number() == NONE_LEFT {
+            tally.pairs.mark(PairPlace::SettledNoneLeft);
         }
         Ok(())
     }
@@ -454,6 +530,14 @@ fn address_at_both(r: &mut Random, hosts: &Hosts, test: impl Fn(&Entry) -> bool)
     (!both.is_empty()).then(|| r.pick(&both))
 }
 
+/// What wrong messages are made of.
+struct Waiting<'a> {
+    /// The list that waits, or else what the standby has dirty.
+    right: &'a [u64],
+    /// The messages taken before.
+    taken: &'a [Vec<u8>],
+}
+
 /// What requests are drawn by.
 struct Draw<'a> {
     r: &'a mut Random,
@@ -472,17 +556,16 @@ impl Draw<'_> {
 
     fn local(&mut self, host: usize, asked: Asked) -> Aside {
         let short = if self.r.chance(1) { self.r.between(1, 3) as usize } else { 0 };
-        Aside { host, asked, list: Vec::new(), short }
+        Aside { host, asked, message: Vec::new(), short }
     }
 
-    /// A list that a standby refuses: the right one with an address too many, or the last once more.
-    fn wrong_list(&mut self, standby: &Model, right: &[u64], taken: &[u64]) -> Vec<u64> {
+    /// The right list with an address too many.
+    fn wrong_list(&mut self, standby: &Model, right: &[u64]) -> Vec<u64> {
         let mut list = right.to_vec();
         let wrong = match self.r.below(4) {
             0 => Some(ALL_ONES),
             1 if !list.is_empty() => Some(self.r.pick(&list)),
             2 => standby.entries.iter().find(|(_, e)| !e.dirty).map(|(a, _)| *a),
-            3 => return taken.to_vec(),
             _ => None,
         };
         let absent = || (0..).find(|a| !standby.entries.contains_key(a)).unwrap();
@@ -491,16 +574,47 @@ impl Draw<'_> {
         list
     }
 
+    /// A message that the lead would send after the one whose turn it is at the standby.
+    fn later_message(&mut self, models: &Models) -> Option<Vec<u8>> {
+        let mut lead = models[LEAD].clone();
+        let sync = Asked { kind: SYNC, address: 0, size: 0, settings: [0; 22] };
+        let skipped = self.r.pick(&[0, 0, 0, 1, 5]);
+        for _ in 0..=skipped + 1 {
+            let number = lead.next;
+            let list = list_of(&try_on(&mut lead, &sync).ok()?);
+            if number > models[STANDBY].next.saturating_add(skipped) {
+                return Some(message::write(number, &list));
+            }
+        }
+        None
+    }
+
+    /// A message that a standby refuses, but for rare ones.
+    fn wrong_message(&mut self, models: &Models, waiting: &Waiting) -> Vec<u8> {
+        let standby = &models[STANDBY];
+        let right = || message::write(standby.next, waiting.right);
+        match self.r.below(13) {
+            0..=2 if !waiting.taken.is_empty() => match self.r.chance(50) {
+                true => waiting.taken[waiting.taken.len() - 1].clone(),
+                false => waiting.taken[self.r.below(waiting.taken.len() as u64) as usize].clone(),
+            },
+            3..=5 => self.later_message(models).unwrap_or_else(right),
+            6 | 7 => messages::damaged(self.r, right()),
+            8 => message::write(messages::other_number(self.r, standby.next), waiting.right),
+            _ => message::write(standby.next, &self.wrong_list(standby, waiting.right)),
+        }
+    }
+
     /// A flush, sync or take astray; it may be one that is accepted.
-    fn stray(&mut self, models: &Models, right: &[u64], taken: &[u64]) -> Aside {
+    fn stray(&mut self, models: &Models, waiting: &Waiting) -> Aside {
         let to_write = self.r.pick(&[FLUSH, SYNC]);
-        let (host, kind, list, short) = match self.r.below(8) {
+        let (host, kind, message, short) = match self.r.below(8) {
             0 => (LEAD, to_write, Vec::new(), self.r.pick(&[0, 1, 3])),
-            1 => (LEAD, TAKE, requests::list(self.r, &models[LEAD]), 0),
+            1 => (LEAD, TAKE, messages::draw(self.r, &Addressee::of(&models[LEAD])).bytes, 0),
             2 => (STANDBY, to_write, Vec::new(), 0),
-            _ => (STANDBY, TAKE, self.wrong_list(&models[STANDBY], right, taken), 0),
+            _ => (STANDBY, TAKE, self.wrong_message(models, waiting), 0),
         };
-        Aside { host, asked: Asked { kind, address: 0, size: 0, settings: [0; 22] }, list, short }
+        Aside { host, asked: Asked { kind, address: 0, size: 0, settings: [0; 22] }, message, short }
     }
 
     /// A local request of either, now and then about the address.
@@ -517,16 +631,15 @@ impl Draw<'_> {
         }
     }
 
-    /// Requests for between two halves; the models are made to hear them. `right` is the list that
-    /// waits, or else what the standby has dirty; some requests are about the address.
-    fn asides(&mut self, models: &mut Models, right: &[u64], taken: &[u64], address: Option<u64>) -> Vec<Aside> {
+    /// Requests for between two halves; the models are made to hear them. Some are about the address.
+    fn asides(&mut self, models: &mut Models, waiting: &Waiting, address: Option<u64>) -> Vec<Aside> {
         let mut asides = Vec::new();
         if self.r.chance(50) {
             return asides;
         }
         for _ in 0..self.r.between(1, 4) {
             let aside = match self.r.chance(30) {
-                true => self.stray(models, right, taken),
+                true => self.stray(models, waiting),
                 false => self.local_about(models, address),
             };
             if hear(models, &aside) {
@@ -545,7 +658,7 @@ impl Draw<'_> {
             (DISCARD, Some(e)) if e.pinned => UNPIN,
             _ => return None,
         };
-        Some(Aside { host, asked: Asked { kind, ..*change }, list: Vec::new(), short: 0 })
+        Some(Aside { host, asked: Asked { kind, ..*change }, message: Vec::new(), short: 0 })
     }
 
     /// A local request of a host that may leave it an entry to evict.
@@ -558,7 +671,7 @@ impl Draw<'_> {
             (None, None) => return None,
         };
         let asked = Asked { kind, address, size: 0, settings: [0; 22] };
-        Some(Aside { host, asked, list: Vec::new(), short: 0 })
+        Some(Aside { host, asked, message: Vec::new(), short: 0 })
     }
 
     /// What may help a change that a host would refuse.
@@ -601,7 +714,8 @@ impl Draw<'_> {
         let other = 1 - first;
         let accepted = try_on(&mut models[first], &asked).is_ok();
         let right: Vec<u64> = models[STANDBY].dirty_records().into_keys().collect();
-        let mut between = self.asides(&mut models, &right, &hosts.taken, Some(asked.address));
+        let waiting = Waiting { right: &right, taken: &hosts.taken };
+        let mut between = self.asides(&mut models, &waiting, Some(asked.address));
         if self.by_asking {
             between.retain(|aside| aside.host == first);
             return Event::ByAsking { asked, first, between, after: None };
@@ -615,7 +729,8 @@ impl Draw<'_> {
     fn list(&mut self, hosts: &Hosts, asked: Asked) -> Event {
         let mut models = hosts.models();
         let orders = try_on(&mut models[LEAD], &asked).unwrap_or_default();
-        let between = self.asides(&mut models, &list_of(&orders), &hosts.taken, None);
+        let waiting = Waiting { right: &list_of(&orders), taken: &hosts.taken };
+        let between = self.asides(&mut models, &waiting, None);
         Event::List { asked, between }
     }
 
@@ -640,12 +755,13 @@ impl Draw<'_> {
                 at_both.address = address;
             }
             return [LEAD, STANDBY]
-                .map(|host| Event::Aside(Aside { host, asked: at_both, list: Vec::new(), short: 0 }))
+                .map(|host| Event::Aside(Aside { host, asked: at_both, message: Vec::new(), short: 0 }))
                 .to_vec();
         }
         if self.r.chance(4) {
             let right: Vec<u64> = hosts.model(STANDBY).dirty_records().into_keys().collect();
-            let stray = Event::Aside(self.stray(&hosts.models(), &right, &hosts.taken));
+            let waiting = Waiting { right: &right, taken: &hosts.taken };
+            let stray = Event::Aside(self.stray(&hosts.models(), &waiting));
             return if hosts.allows(&stray) { vec![stray] } else { Vec::new() };
         }
         let targeted = self.r.chance(80);
@@ -680,18 +796,25 @@ pub fn play(seed: u64, tally: &mut Tally) -> Result<(), Box<(Pair, Difference)>>
     let rows = [(); 2].map(|_| r.between(2, most) as usize);
     let settings = rows.map(|n| requests::any_settings(&mut r, n, scale, true));
     let threshold = if r.chance(80) { r.between(1, 8_000) } else { r.between(1, THRESHOLD_LIMIT) };
-    let mut pair = Pair { threshold, rows, settings, by_asking: r.chance(50), events: Vec::new() };
+    let first_number = match r.below(20) {
+        0 | 1 => u64::MAX - 2,
+        2 => u64::MAX - r.below(40),
+        _ => FIRST_NUMBER,
+    };
+    let mut pair = Pair { threshold, first_number, rows, settings, by_asking: r.chance(50), events: Vec::new() };
     let outcome = go_on(&mut r, &mut pair, scale, tally);
     tally.runs += 1;
     tally.pair_runs += 1;
     tally.pair_runs_by_asking += pair.by_asking as u64;
+    tally.pair_runs_to_last += (first_number != FIRST_NUMBER) as u64;
     outcome.map_err(|difference| Box::new((pair, difference)))
 }
 
 fn go_on(r: &mut Random, pair: &mut Pair, scale: Scale, tally: &mut Tally) -> Result<(), Difference> {
     let mut hosts = Hosts::open(pair, tally)?;
     let mut phase = Phase::any(r);
-    for _ in 0..r.between(100, 1_200) {
+    let most = if pair.first_number == FIRST_NUMBER { 1_200 } else { 200 };
+    for _ in 0..r.between(100, most) {
         if r.chance(2) {
             phase = Phase::any(r);
         }
@@ -708,7 +831,7 @@ fn go_on(r: &mut Random, pair: &mut Pair, scale: Scale, tally: &mut Tally) -> Re
 
 impl std::fmt::Display for Aside {
     fn fmt(&self, f: &mut std::fmt::Formatter) -> std::fmt::Result {
-        write!(f, "{}: {}", NAMES[self.host], asked_text(&self.asked, &self.list))?;
+        write!(f, "{}: {}", NAMES[self.host], asked_text(&self.asked, &self.message))?;
         if self.short != 0 {
             write!(f, " [{} order words short]", self.short)?;
         }
@@ -721,6 +844,9 @@ impl std::fmt::Display for Pair {
         for (host, name) in NAMES.iter().enumerate() {
             let (rows, settings) = (self.rows[host], settings_text(&self.settings[host]));
             writeln!(f, "{name}: open {rows} rows, threshold {}, {settings}", self.threshold)?;
+        }
+        if self.first_number != FIRST_NUMBER {
+            writeln!(f, "words put into both: {NEXT}={:#x}", self.first_number)?;
         }
         for event in &self.events {
             let (halves, between): ([String; 2], &[Aside]) = match event {
@@ -735,7 +861,7 @@ impl std::fmt::Display for Pair {
                     ([*first, 1 - first].map(|host| format!("{}: {}", NAMES[host], asked_text(asked, &[]))), between)
                 }
                 Event::List { asked, between } => {
-                    ([format!("lead: {}", asked_text(asked, &[])), "standby: takes the list".to_string()], between)
+                    ([format!("lead: {}", asked_text(asked, &[])), "standby: takes the message".to_string()], between)
                 }
             };
             writeln!(f, "{}", halves[0])?;

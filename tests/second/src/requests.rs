@@ -1,6 +1,7 @@
 //! Random settings, requests, states and damage: mostly sensible, now and then extreme or bad.
 
 use crate::boundary::{settings_words, Asked, SettingsWords};
+use crate::messages::{self, Addressee, Message};
 use crate::model::{
     Cap, Decrease, Entry, Flash, Hold, Increase, Mode, Model, Settings, ALL_ONES, COUNT_STOP, IDLE_LIMIT, READER_LIMIT,
     ROW_LIMIT, SIZE_LIMIT, THRESHOLD_LIMIT,
@@ -374,23 +375,8 @@ fn address(r: &mut Random, m: &Model, kind: u64, phase: &Phase) -> u64 {
     found.unwrap_or_else(|| new_address(r, m))
 }
 
-/// A list for taking, mostly one of dirty addresses.
-pub fn list(r: &mut Random, m: &Model) -> Vec<u64> {
-    let percent = r.pick(&[0, 20, 100]);
-    let mut list: Vec<u64> = m.dirty_records().into_keys().filter(|_| r.chance(percent)).collect();
-    r.shuffle(&mut list);
-    match r.below(16) {
-        0 => list.push(any_address(r, m.rows)),
-        1 if !list.is_empty() => list.push(list[0]),
-        2 => list.insert(0, ALL_ONES),
-        3 => list.extend(m.entries.keys().take(2)),
-        _ => {}
-    }
-    list
-}
-
-/// A request and its list.
-pub fn request(r: &mut Random, m: &Model, phase: &Phase, scale: Scale) -> (Asked, Vec<u64>) {
+/// A request and its message.
+pub fn request(r: &mut Random, m: &Model, phase: &Phase, scale: Scale) -> (Asked, Message) {
     let kind = if m.no_row() && r.chance(50) {
         helpful_kind(r, m)
     } else if r.below(200) == 0 {
@@ -417,15 +403,17 @@ pub fn request(r: &mut Random, m: &Model, phase: &Phase, scale: Scale) -> (Asked
         let good = r.chance(30);
         asked.settings = any_settings(r, m.rows, scale, good);
     }
-    let list = if kind == 12 || r.chance(1) { list(r, m) } else { Vec::new() };
-    (asked, list)
+    let message = match kind {
+        12 => messages::draw(r, &Addressee::of(m)),
+        _ if r.chance(1) => Message { way: None, ..messages::draw(r, &Addressee::of(m)) },
+        _ => Message::default(),
+    };
+    (asked, message)
 }
 
 /// A request with nothing known of the cache.
-pub fn blind_request(r: &mut Random, rows: usize) -> (Asked, Vec<u64>) {
-    let asked =
-        Asked { kind: r.below(16), address: any_address(r, rows), size: size(r, Scale::Tight), settings: [0; 22] };
-    (asked, Vec::new())
+pub fn blind_request(r: &mut Random, rows: usize) -> Asked {
+    Asked { kind: r.below(16), address: any_address(r, rows), size: size(r, Scale::Tight), settings: [0; 22] }
 }
 
 // ---- states
@@ -498,6 +486,7 @@ pub fn state(r: &mut Random, rows: usize, mode: Mode, scale: Scale) -> Model {
         accesses,
         hits,
         count,
+        next: messages::some_next(r),
         entries,
         recency: VecDeque::from(listed),
         reached: Reached::default(),
@@ -507,9 +496,10 @@ pub fn state(r: &mut Random, rows: usize, mode: Mode, scale: Scale) -> Model {
 /// One word at the edge of what refusal 1 lets pass, or just past it.
 fn word_at_edge(r: &mut Random, words: &[u64], rows: usize) -> (usize, u64) {
     let row = table::HEADER + r.below(rows as u64) as usize * table::ROW;
-    let (accesses, largest, smallest, epoch) = (words[5], words[12], words[13], words[14]);
+    let accesses = words[5];
+    let [largest, smallest, epoch] = [4, 5, 6].map(|i| words[table::SETTINGS + i]);
     let past = r.below(2);
-    match r.below(12) {
+    match r.below(14) {
         0 => (1, r.pick(&[0, rows as u64 - past, rows as u64 + past, ROW_LIMIT + past])),
         1 => (2, 2 + past),
         2 => (3, r.pick(&[1 - past, THRESHOLD_LIMIT + past])),
@@ -521,6 +511,9 @@ fn word_at_edge(r: &mut Random, words: &[u64], rows: usize) -> (usize, u64) {
         8 => (row + 1, r.pick(&[1 - past, SIZE_LIMIT + past])),
         9 => (row + 2 + 2 * r.below(2) as usize, 1 + past),
         10 => (row + 3, IDLE_LIMIT + past),
+        // The version before.
+        11 => (0, table::VERSION - past),
+        12 => (table::NEXT, messages::some_next(r)),
         _ => (row + 5, READER_LIMIT as u64 + past + r.below(2)),
     }
 }

@@ -1,9 +1,11 @@
 //! A random run of one cache.
 
 use crate::batch::{self, ANSWER_WORDS, REQUEST_WORDS};
-use crate::boundary::{request_of, settings_of, settings_words, Asked, SettingsWords, KINDS};
+use crate::boundary::{request_of, settings_of, settings_words, Asked, SettingsWords, KINDS, TAKE};
 use crate::cache::{Cache, Difference};
-use crate::model::{order_words, Mode, ROW_LIMIT, THRESHOLD_LIMIT};
+use crate::message;
+use crate::messages::{self, Message};
+use crate::model::{order_words, Mode, Model, ROW_LIMIT, THRESHOLD_LIMIT};
 use crate::random::Random;
 use crate::reached::BatchPlace;
 use crate::requests::{self, Phase, Scale};
@@ -22,14 +24,14 @@ pub enum Event {
     Step {
         lent: usize,
         order_lent: usize,
-        list: Vec<u64>,
+        message: Message,
         asked: Asked,
     },
     /// A request that is asked about and not done.
     Ask {
         lent: usize,
         order_lent: usize,
-        list: Vec<u64>,
+        message: Message,
         asked: Asked,
     },
     /// Many requests in one call, of three words each.
@@ -68,11 +70,15 @@ impl Run {
             Event::Open { lent, rows, mode, threshold, settings } => {
                 cache.open(*lent, *rows, *mode, *threshold, settings, tally).map(|_| ())
             }
-            Event::Step { lent, order_lent, list, asked } => {
-                cache.step(*lent, *order_lent, list, asked, tally).map(|_| ())
+            Event::Step { lent, order_lent, message, asked } => {
+                let (answer, _) = cache.step(*lent, *order_lent, &message.bytes, asked, tally)?;
+                if let Some(way) = message.way {
+                    tally.message(way, answer.number);
+                }
+                Ok(())
             }
-            Event::Ask { lent, order_lent, list, asked } => {
-                cache.ask(*lent, *order_lent, list, asked, tally).map(|_| ())
+            Event::Ask { lent, order_lent, message, asked } => {
+                cache.ask(*lent, *order_lent, &message.bytes, asked, tally).map(|_| ())
             }
             Event::Batch { lent, order_lent, answer_lent, requests, part } => {
                 let words = [requests.as_flattened(), part].concat();
@@ -86,16 +92,27 @@ impl Run {
         }
     }
 
+    /// Messages that are offered to a cache in this state, one after the other.
+    pub fn of_messages(state: &Model, messages: Vec<Message>) -> Run {
+        let (lent, order_lent) = (table_words(state.rows), 0);
+        let words = table::picture(state).into_iter().enumerate().collect();
+        let take = |message| Event::Step { lent, order_lent, message, asked: TAKE };
+        let events = std::iter::once(Event::Put { words }).chain(messages.into_iter().map(take)).collect();
+        Run { table_words: lent, order_words: order_lent, events }
+    }
+
+    /// The cache after all events, or the first difference and how many events it took.
+    pub fn happen_all(&self, tally: &mut Tally) -> Result<Cache, (usize, Difference)> {
+        let mut cache = self.cache();
+        for (i, event) in self.events.iter().enumerate() {
+            Run::happen(&mut cache, event, tally).map_err(|difference| (i + 1, difference))?;
+        }
+        Ok(cache)
+    }
+
     /// The first difference, and how many events it took.
     pub fn replay(&self) -> Option<(usize, Difference)> {
-        let mut cache = self.cache();
-        let mut tally = Tally::default();
-        for (i, event) in self.events.iter().enumerate() {
-            if let Err(difference) = Run::happen(&mut cache, event, &mut tally) {
-                return Some((i + 1, difference));
-            }
-        }
-        None
+        self.happen_all(&mut Tally::default()).err()
     }
 }
 
@@ -132,7 +149,7 @@ impl Player<'_> {
     /// How many table words to lend where so many are needed.
     fn lent(&mut self, needed: usize) -> usize {
         match self.r.below(200) {
-            0 => self.r.pick(&[0, 1, 2, 28, needed - 1]).min(self.run.table_words),
+            0 => self.r.pick(&[0, 1, 2, table::HEADER - 1, needed - 1]).min(self.run.table_words),
             1 => self.r.below(needed as u64) as usize,
             2..=40 => needed,
             _ => self.run.table_words,
@@ -180,6 +197,15 @@ impl Player<'_> {
         self.happen(Event::Put { words })
     }
 
+    /// Another next number comes into the table: few are left, or none, or any.
+    fn put_next(&mut self) -> Result<(), Difference> {
+        if self.cache.model.is_none() {
+            return Ok(());
+        }
+        let next = messages::some_next(&mut self.r);
+        self.happen(Event::Put { words: vec![(table::NEXT, next)] })
+    }
+
     /// The table is damaged, asked, and mostly mended.
     fn damage(&mut self) -> Result<(), Difference> {
         let Some(m) = &self.cache.model else { return Ok(()) };
@@ -192,13 +218,13 @@ impl Player<'_> {
             None => self.tally.damaged_bad += 1,
         }
         for _ in 0..self.r.between(1, 3) {
-            let (asked, list) = requests::blind_request(&mut self.r, rows);
-            self.ask(rows, asked, list)?;
+            let asked = requests::blind_request(&mut self.r, rows);
+            self.ask(rows, asked, Message::default())?;
             self.blind_batch(rows)?;
-            let (asked, list) = requests::blind_request(&mut self.r, rows);
+            let asked = requests::blind_request(&mut self.r, rows);
             let order_lent = if self.r.chance(90) { self.run.order_words } else { 0 };
             let lent = self.run.table_words;
-            self.happen(Event::Step { lent, order_lent, list, asked })?;
+            self.happen(Event::Step { lent, order_lent, message: Message::default(), asked })?;
         }
         // A step may have changed a table that was still a cache: mend only one that was not.
         if self.cache.model.is_none() {
@@ -208,11 +234,11 @@ impl Player<'_> {
     }
 
     /// Asks about a request, which is not done.
-    fn ask(&mut self, rows: usize, asked: Asked, list: Vec<u64>) -> Result<(), Difference> {
+    fn ask(&mut self, rows: usize, asked: Asked, message: Message) -> Result<(), Difference> {
         let lent = self.lent(table_words(rows));
         let needed = order_words(rows);
         let order_lent = self.r.pick(&[0, 1, needed - 1, needed, needed, needed + 1, usize::MAX]);
-        self.happen(Event::Ask { lent, order_lent, list, asked })
+        self.happen(Event::Ask { lent, order_lent, message, asked })
     }
 
     /// A batch of these requests, and if it stops after some, mostly one of the rest.
@@ -266,7 +292,7 @@ impl Player<'_> {
     /// A batch of requests with nothing known of the cache.
     fn blind_batch(&mut self, rows: usize) -> Result<(), Difference> {
         let blind = |r: &mut Random| {
-            let (asked, _) = requests::blind_request(r, rows);
+            let asked = requests::blind_request(r, rows);
             [asked.kind, asked.address, asked.size]
         };
         let requests = (0..self.r.below(5)).map(|_| blind(&mut self.r)).collect();
@@ -274,20 +300,20 @@ impl Player<'_> {
     }
 
     /// The rows of the cache, and a request as the phase has them.
-    fn draw(&mut self, phase: &Phase) -> Option<(usize, Asked, Vec<u64>)> {
+    fn draw(&mut self, phase: &Phase) -> Option<(usize, Asked, Message)> {
         let m = self.cache.model.as_ref()?;
-        let (asked, list) = requests::request(&mut self.r, m, phase, self.scale);
-        Some((m.rows, asked, list))
+        let (asked, message) = requests::request(&mut self.r, m, phase, self.scale);
+        Some((m.rows, asked, message))
     }
 
     fn step(&mut self, phase: &Phase) -> Result<(), Difference> {
-        if let (Some((rows, asked, list)), true) = (self.draw(phase), self.r.chance(10)) {
-            self.ask(rows, asked, list)?;
+        if let (Some((rows, asked, message)), true) = (self.draw(phase), self.r.chance(10)) {
+            self.ask(rows, asked, message)?;
         }
-        let Some((rows, asked, list)) = self.draw(phase) else { return Ok(()) };
+        let Some((rows, asked, message)) = self.draw(phase) else { return Ok(()) };
         let lent = self.lent(table_words(rows));
         let order_lent = self.order_lent(order_words(rows));
-        self.happen(Event::Step { lent, order_lent, list, asked })
+        self.happen(Event::Step { lent, order_lent, message, asked })
     }
 
     fn play(&mut self, rows: usize, length: u64) -> Result<(), Difference> {
@@ -315,6 +341,7 @@ impl Player<'_> {
                     self.open(rows)?;
                 }
                 16..=35 => self.sensible_batch(&phase)?,
+                36..=38 => self.put_next()?,
                 _ if self.r.chance(states) => self.put_state()?,
                 _ => self.step(&phase)?,
             }
@@ -347,13 +374,13 @@ pub fn play(seed: u64, large: bool, tally: &mut Tally) -> Result<(), Box<(Run, D
 
 // ---- as text
 
-pub fn asked_text(asked: &Asked, list: &[u64]) -> String {
+pub fn asked_text(asked: &Asked, message: &[u8]) -> String {
     let Asked { kind, address, size, settings } = asked;
     let name = if (1..=13).contains(kind) { KINDS[*kind as usize].to_string() } else { format!("kind {kind}") };
     match kind {
         1 | 2 | 3 | 5 | 8 => format!("{name} {address} {size}"),
         4 | 6 | 7 | 9 => format!("{name} {address}"),
-        12 => format!("{name} {list:?}"),
+        12 => format!("{name} {}", message::text(message)),
         13 => format!("{name} {}", settings_text(settings)),
         _ => name,
     }
@@ -378,9 +405,9 @@ impl std::fmt::Display for Run {
                         write!(f, " [{lent} table words lent]")?;
                     }
                 }
-                Event::Step { lent, order_lent, list, asked } | Event::Ask { lent, order_lent, list, asked } => {
+                Event::Step { lent, order_lent, message, asked } | Event::Ask { lent, order_lent, message, asked } => {
                     let only_asked = if matches!(event, Event::Ask { .. }) { "asked: " } else { "" };
-                    write!(f, "{only_asked}{}", asked_text(asked, list))?;
+                    write!(f, "{only_asked}{}", asked_text(asked, &message.bytes))?;
                     if *lent != self.table_words {
                         write!(f, " [{lent} table words lent]")?;
                     }

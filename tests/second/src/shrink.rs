@@ -1,5 +1,6 @@
 //! Makes a run that shows a difference short.
 
+use crate::message::{ADDRESS_BYTES, HEAD_BYTES};
 use std::time::{Duration, Instant};
 
 const LONGEST: Duration = Duration::from_secs(20);
@@ -28,4 +29,19 @@ pub fn shrink<T: Clone>(mut items: Vec<T>, shows: impl Fn(&[T]) -> bool) -> Vec<
             part = (part / 2).max(1);
         }
     }
+}
+
+/// Drops addresses, with the count that names them, and then single bytes.
+pub fn shrink_message(bytes: Vec<u8>, shows: impl Fn(&[u8]) -> bool) -> Vec<u8> {
+    let Some((head, fields)) = bytes.split_at_checked(HEAD_BYTES) else { return shrink(bytes, shows) };
+    let (number, count) = head.split_at(HEAD_BYTES - 2);
+    let count = u16::from_be_bytes([count[0], count[1]]);
+    let addresses: Vec<&[u8]> = fields.chunks_exact(ADDRESS_BYTES).take_while(|field| field[0] == 3).collect();
+    let rest = &fields[ADDRESS_BYTES * addresses.len()..];
+    let with = |kept: &[&[u8]]| {
+        let fewer = count.wrapping_sub((addresses.len() - kept.len()) as u16);
+        [number, &fewer.to_be_bytes(), &kept.concat(), rest].concat()
+    };
+    let short = with(&shrink(addresses.clone(), |kept| shows(&with(kept))));
+    shrink(short, shows)
 }

@@ -2,6 +2,7 @@
 //! inverse.
 
 use second::batch;
+use second::message;
 use second::model::{
     self, order_words, Cap, Decrease, Flash, Increase, Mode, Model, Order, Request, Settings, ALL_ONES,
 };
@@ -160,7 +161,7 @@ fn p9_to_p11() {
     assert!(m.report().due);
     let mut m = open(4, Mode::Standby, 1_000, small_settings());
     insert(&mut m, 100, 1).unwrap();
-    assert_eq!(m.step(&Request::Take, &[100, 100], 0).unwrap_err().number, 13);
+    assert_eq!(m.step(&Request::Take, &message::write(1, &[100, 100]), 0).unwrap_err().number, 13);
     assert_eq!(insert(&mut m, ALL_ONES, 0), Err(3));
     let mut m = open(2, Mode::Lead, 1_000, small_settings());
     insert(&mut m, 1, 100).unwrap();
@@ -202,7 +203,7 @@ fn the_judge_finds_what_was_pictured() {
         let mut words = picture(&state);
         assert_eq!(words.len(), table_words(rows));
         let judged = judge(&words).unwrap();
-        assert_eq!((judged.entries, judged.recency), (state.entries, state.recency));
+        assert_eq!((judged.entries, judged.recency, judged.next), (state.entries, state.recency, state.next));
         assert!(judge(&words[..words.len() - 1]).is_none());
         // Damaged words picture nothing, or they are the picture of what they picture.
         for (at, word) in requests::damage(&mut r, &words, rows) {
