@@ -22,9 +22,11 @@ fn proved_judge(table: &[u64]) -> bool {
 
 // ---- the same checks by hand
 
-const HEADER: usize = 29;
+const HEADER: usize = 30;
+// Where the settings begin; any number may stand before them.
+const SETTINGS: usize = 9;
 const WIDTH: usize = 6;
-const VERSION: u64 = 0x5350_4c44_5654_0001;
+const VERSION: u64 = 0x5350_4c44_5654_0002;
 const ONES: u64 = u64::MAX;
 
 fn within(x: f64, low: f64, high: f64) -> bool {
@@ -230,7 +232,7 @@ fn hand_judge(table: &[u64], parts_allowed: impl Fn(&Parts) -> Option<bool>) -> 
         return false;
     }
     let rows = count as usize;
-    let settings = &table[8..HEADER];
+    let settings = &table[SETTINGS..HEADER];
     if table.len() < HEADER + rows * (WIDTH + 2) || settings_allowed(settings).is_none() {
         return false;
     }
@@ -295,7 +297,8 @@ fn settings_words(random: &mut Random) -> [u64; 21] {
 fn table(random: &mut Random, rows: usize, holes: bool) -> Vec<u64> {
     let mut t = vec![0; HEADER];
     t[..8].copy_from_slice(&[VERSION, rows as u64, random.below(3), 262_144, 2_097_152, 40_000, 30_000, 0]);
-    t[8..].copy_from_slice(&settings_words(random));
+    t[8] = random.next();
+    t[SETTINGS..].copy_from_slice(&settings_words(random));
     let mut entries: Vec<(u64, u64)> = Vec::new();
     let mut recency = Vec::new();
     for row in 0..rows as u64 {

@@ -1,14 +1,18 @@
 //! Times the library's requests, and asking about them, beside judging alone, the second program's
-//! model, and reading the table once; and hits in a batch. Prints two tables, in Markdown.
+//! model, and reading the table once; taking and writing a message; and hits in a batch. Prints three
+//! tables, in Markdown.
 //!
 //!     cargo run --release
 
 mod hit_pairs;
 mod lru;
+mod messages;
 
 use hit_pairs::HitPairs;
+use messages::MessageTimes;
 use second::boundary::{request_of, settings_words, Asked};
 use second::library;
+use second::message;
 use second::model::{self, order_words, Decrease, Entry, Hold, Mode, Model, Request, Settings};
 use second::random::Random;
 use second::table::{judge, picture, table_words};
@@ -27,9 +31,9 @@ const LIST_SEED: u64 = 3;
 /// Time spent on one figure, and how often it is measured at least and at most.
 const TIME: Duration = Duration::from_millis(400);
 const FEWEST: usize = 3;
+const MOST: usize = 100_000;
 /// What asking may cost with the most rows where its tests go over no rows and no list, times judging.
 const ASKING_BESIDE_JUDGING: f64 = 1.1;
-const MOST: usize = 100_000;
 
 const INSERT: u64 = 1;
 const PROTECT_FOR_READING: u64 = 2;
@@ -130,6 +134,7 @@ struct Case {
     name: &'static str,
     cache: Model,
     asked: Vec<Asked>,
+    /// The addresses of the message that is taken.
     list: Vec<u64>,
     /// Whether the list is shuffled anew before each time, so that no branch of one is known from another.
     shuffled: bool,
@@ -248,21 +253,31 @@ struct Figures {
     model: f64,
 }
 
-/// The lists of a case, one for each time, as they come.
-struct Lists {
+/// The messages of a case, one for each time, as they come.
+struct Messages {
+    number: u64,
     list: RefCell<Vec<u64>>,
+    message: RefCell<Vec<u8>>,
     random: Option<RefCell<Random>>,
 }
 
-impl Lists {
-    fn of(case: &Case) -> Lists {
+impl Messages {
+    fn of(case: &Case) -> Messages {
         let random = case.shuffled.then(|| RefCell::new(Random::new(LIST_SEED)));
-        Lists { list: RefCell::new(case.list.clone()), random }
+        let message = message::write(case.cache.next, &case.list);
+        Messages {
+            number: case.cache.next,
+            list: RefCell::new(case.list.clone()),
+            message: RefCell::new(message),
+            random,
+        }
     }
 
     fn next(&self) {
         if let Some(random) = &self.random {
-            random.borrow_mut().shuffle(&mut self.list.borrow_mut());
+            let mut list = self.list.borrow_mut();
+            random.borrow_mut().shuffle(&mut list);
+            library::write_message(&mut self.message.borrow_mut(), self.number, &list);
         }
     }
 }
@@ -292,23 +307,23 @@ fn time_asking(case: &Case) -> AskingFigures {
     let request = &case.asked[0];
     let mut table = words.clone();
     let mut orders = vec![0; lent];
-    let told = library::ask(&words, lent, &case.list, request);
+    let messages = Messages::of(case);
+    let told = library::ask(&words, lent, &messages.message.borrow(), request);
     assert_eq!(told.number == 0, case.orders[0].is_some(), "asking about {}", case.name);
     let unknown = asked(UNKNOWN, 0, 0);
-    let lists = Lists::of(case);
     let [mut judging, mut asking, mut doing] = [(); 3].map(|()| Best(Duration::MAX));
     many_times(|| {
         table.copy_from_slice(&words);
         judging.time(|| library::step(&mut table, &mut orders, &[], black_box(&unknown)));
         table.copy_from_slice(&words);
-        lists.next();
-        asking.time(|| library::ask(&table, lent, &lists.list.borrow(), black_box(request)));
+        messages.next();
+        asking.time(|| library::ask(&table, lent, &messages.message.borrow(), black_box(request)));
         table.copy_from_slice(&words);
-        lists.next();
-        doing.time(|| library::step(&mut table, &mut orders, &lists.list.borrow(), black_box(request)));
+        messages.next();
+        doing.time(|| library::step(&mut table, &mut orders, &messages.message.borrow(), black_box(request)));
     });
     let known = request_of(request);
-    let model = time(|| lists.next(), |()| case.cache.refusal(&known, &lists.list.borrow(), lent).is_some());
+    let model = time(|| messages.next(), |()| case.cache.refusal(&known, &messages.message.borrow(), lent).is_some());
     AskingFigures {
         judging: judging.microseconds(),
         asking: asking.microseconds(),
@@ -325,37 +340,37 @@ fn time_case(case: &Case) -> Figures {
     let mut table = words.clone();
     let mut orders = vec![0; lent];
     let requests: Vec<Request> = case.asked.iter().map(request_of).collect();
+    let messages = Messages::of(case);
     // The case is what its name says.
     let mut model = case.cache.clone();
     for ((asked, request), expected) in case.asked.iter().zip(&requests).zip(&case.orders) {
-        let answer = library::step(&mut table, &mut orders, &case.list, asked);
-        let given = model.step(request, &case.list, lent).ok().map(|orders| orders.len() as u64);
+        let answer = library::step(&mut table, &mut orders, &messages.message.borrow(), asked);
+        let given = model.step(request, &messages.message.borrow(), lent).ok().map(|orders| orders.len() as u64);
         let told = (answer.number == 0).then_some(answer.orders);
         assert_eq!((told, given), (*expected, *expected), "{} at {rows} rows", case.name);
     }
     // Preparing and running need the table in turn.
     let table = RefCell::new(table);
-    let lists = Lists::of(case);
     let library = time(
         || {
-            lists.next();
+            messages.next();
             table.borrow_mut().copy_from_slice(&words)
         },
         |()| {
             let table = &mut *table.borrow_mut();
             for asked in &case.asked {
-                black_box(library::step(table, &mut orders, &lists.list.borrow(), asked));
+                black_box(library::step(table, &mut orders, &messages.message.borrow(), asked));
             }
         },
     );
     let model = time(
         || {
-            lists.next();
+            messages.next();
             case.cache.clone()
         },
         |mut model| {
             for request in &requests {
-                black_box(model.step(request, &lists.list.borrow(), lent).is_ok());
+                black_box(model.step(request, &messages.message.borrow(), lent).is_ok());
             }
             model
         },
@@ -439,6 +454,7 @@ fn main() {
         let above = if above.is_empty() { "none".to_string() } else { above.join("; ") };
         println!("\n{bound}: {above}.");
     }
+    messages::print(&ROW_COUNTS.map(MessageTimes::measure));
     hit_pairs::print(&ROW_COUNTS.map(HitPairs::measure));
     println!();
     for rows in ROW_COUNTS {
