@@ -76,6 +76,7 @@ noReport = record {
   entries = 0;
   maximum = 0;
   clean = 0;
+  missing = 0;
   count = 0;
   due = false;
   next = 0;

@@ -22,6 +22,7 @@ fn no_report() -> Report
         entries: 0,
         maximum: 0,
         clean: 0,
+        missing: 0,
         count: 0,
         due: false,
         next: 0,

@@ -28,6 +28,7 @@ figureNumbers a report = record {
   entries = report .entries;
   maximum = report .maximum;
   clean = report .clean;
+  missing = report .missing;
   count = report .count;
   due = flagWord (report .due);
   next = report .next;

@@ -20,6 +20,7 @@ pub fn figures_of(answer: Answer, report: Report) -> RawFigures
         entries: report.entries,
         maximum: report.maximum,
         clean: report.clean,
+        missing: report.missing,
         count: report.count,
         due: flag_word(due),
         next: report.next,

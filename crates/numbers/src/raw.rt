@@ -94,6 +94,7 @@ pub struct RawFigures {
     pub entries: u64,
     pub maximum: u64,
     pub clean: u64,
+    pub missing: u64,
     pub count: u64,
     pub due: u64,
     pub next: u64,

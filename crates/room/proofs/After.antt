@@ -17,7 +17,7 @@ use Rattle.rules.specs.Addresses.{nearest}
 use Rattle.rules.specs.Cache.{Work, withMaximum}
 use Rattle.rules.specs.Entries.{if_then_else_}
 use Rattle.rules.specs.Resizing.{evictAged, expel, agedAt, lower, increasedIn, ageOut, decreasedBy, resized, aged, endEpoch, counts, countAccess, counted, endIfDue}
-use Rattle.rules.specs.Room.{evict, write, writeInPlace, lacking, cleanShareMet, lookAtTail, tailTurn, cleanTurn, orStay, turns, writeDirty, roomIn, makeRoom}
+use Rattle.rules.specs.Room.{evict, write, writeInPlace, lacking, shareMissing, lookAtTail, tailTurn, cleanTurn, orStay, turns, writeDirty, roomIn, makeRoom}
 use Rattle.rules.specs.Rows.{cleanAt, dirtyAt}
 
 module _ (before : List Order) where
@@ -39,7 +39,7 @@ module _ (before : List Order) where
   unfolding writeDirty
   dirty-carries x [] w = refl
   dirty-carries x (a ∷ l) w =
-      ap (writeDirty x l) (chosen (not (cleanShareMet x (w .cache)) && dirtyAt (w .cache .rows) a) (writeInPlace a w) w (write-carries a (w .cache .recency) w) refl) ∙ dirty-carries x l _
+      ap (writeDirty x l) (chosen (ltb 0 (shareMissing x (w .cache)) && dirtyAt (w .cache .rows) a) (writeInPlace a w) w (write-carries a (w .cache .recency) w) refl) ∙ dirty-carries x l _
 
   -- a turn of step 1 does not look at the orders before it
   abbrev Carries : (Work → Option Work) → Type 0

@@ -5,7 +5,6 @@ use mathlib.Core.Bool.{Bool, true, false, not, _&&_, _||_}
 use mathlib.Core.List.{List, [], _∷_}
 use mathlib.Core.Option.{some}
 use mathlib.Core.Path.{_≡_, refl, sym, ap, _∙_}
-use native.Mathlib.Nat.{le-refl}
 use native.Mathlib.Omega.{arith}
 use lib.Dec.{ltb}
 use lib.ListN.{length, getD, length-append}
@@ -17,7 +16,6 @@ use Rattle.rules.proofs.Totals.{total-remove, total-amend, total-same}
 use Rattle.rules.specs.Allowed.{Sound}
 use Rattle.rules.specs.Cache.{Cache, Work, withRows, start, give}
 use Rattle.rules.specs.Entries.{isListed, cleaned}
-use Rattle.rules.specs.Limits.{mostRows, mostSize}
 use Rattle.rules.specs.Room.{lacking}
 use Rattle.rules.specs.Rows.{get, passes, amend, remove, hasFree, heldBytes, cleanAt, dirtyAt, sizeAt}
 use Rattle.rules.specs.declared.entry.Entry.{Entry}
@@ -29,7 +27,6 @@ use Rattle.layout.specs.Holds.{Holds, Good}
 use Rattle.layout.specs.Leaves.{putOrder}
 use Rattle.layout.specs.Picture.{cacheIn, restIn}
 use Rattle.table.proofs.Told.{good-rows}
-use Rattle.table.proofs.Turns.{total-fits}
 use Rattle.table.specs.Asked.{GoodRows}
 use Rattle.table.specs.Told.{dropped, Gives}
 use Rattle.room.proofs.Orders.{put-none, put-next}
@@ -169,7 +166,3 @@ module _ {maximum held : ℕ} {free : Bool} {listed : ℕ} {c : Cache} (f : Figu
     free-is = f .free-is ∙ sym (free-amend a cleaned (c .rows));
     listed-is = f .listed-is ∙ sym e;
   }
-
--- held bytes fit a word with room to spare
-pub held-fits : {table : List ℕ} {rows : ℕ} → GoodRows table rows → heldBytes (cacheIn table .rows) ≤ mostRows * mostSize
-held-fits g = total-fits g (λ e. e .size) (λ e. le-refl (e .size))

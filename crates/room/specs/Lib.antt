@@ -3,4 +3,3 @@ pub mod Answered
 pub mod Did
 pub mod First
 pub mod Held
-pub mod Missing

@@ -7,7 +7,7 @@ use Rattle.fraction.specs.Examples.{every}
 use Rattle.fraction.specs.Fraction.{sizeProduct, hitRate, reserveQuotient, exceedsShare}
 use Rattle.settings.specs.Validation.{firstBad}
 use Rattle.rules.specs.Addresses.{elem, strike, someAddress, nearest, twice, insertRising}
-use Rattle.rules.specs.Cases.{cases, further, ran, run, after, reversed, cacheOf, isValid}
+use Rattle.rules.specs.Cases.{cases, further, missing, ran, run, after, reversed, cacheOf, isValid}
 use Rattle.rules.specs.Messages.{bytesOf, addressFields, messageOf, feed, feedAll, readMessage}
 use Rattle.rules.specs.Opening.{refusalOfOpening}
 use Rattle.rules.specs.Refusals.{firstOf, tests, refusalOf}
@@ -33,3 +33,13 @@ worked-further = refl
 pub valid : every (λ x. isValid (x .setup)) (cases ++ further) ≡ true
 unfolding computing every isValid cacheOf after
 valid = refl
+
+-- ---- the clean share
+
+pub worked-missing : map (λ x. reportOf (cacheOf (x .0)) .missing) missing ≡ map (λ x. x .1) missing
+unfolding computing cacheOf after
+worked-missing = refl
+
+pub missing-valid : every (λ x. isValid (x .0)) missing ≡ true
+unfolding computing every isValid cacheOf after
+missing-valid = refl

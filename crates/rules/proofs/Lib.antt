@@ -5,6 +5,7 @@ pub mod Lists
 pub mod Totals
 pub mod Moves
 pub mod Epochs
+pub mod Share
 pub mod Loops
 pub mod Free
 pub mod Steps

@@ -16,12 +16,14 @@ use Rattle.rules.specs.Allowed.{Sound}
 use Rattle.rules.specs.Cache.{Work}
 use Rattle.rules.specs.Entries.{if_then_else_, cleaned}
 use Rattle.rules.specs.Loops.{While, met, none-left, again, dirtyTurn}
-use Rattle.rules.specs.Room.{writeInPlace, lacking, cleanShareMet, tailTurn, cleanTurn, orStay, turns, evictBy, writeDirty}
+use Rattle.rules.specs.Room.{writeInPlace, lacking, tailTurn, cleanTurn, orStay, turns, evictBy, writeDirty}
 use Rattle.rules.specs.Rows.{get, passes, amend, dirtyAt}
+use Rattle.rules.specs.ShareTest.{cleanShareMet, writeByTest}
 use Rattle.rules.proofs.Found.{get-amend}
 use Rattle.rules.proofs.Lists.{elem-append, elem-first, elem-rest}
 use Rattle.rules.proofs.Moved.{moved, left, left-most}
 use Rattle.rules.proofs.Moves.{moves-sound, Turning, tail-turns, clean-turns, sound-write, same-list}
+use Rattle.rules.proofs.Share.{writes-as-before}
 use Rattle.rules.proofs.Tests.{split, if-same, or-false}
 
 -- ---- a pass over the list
@@ -115,15 +117,15 @@ write-onward a d l w k p = (
   },
 )
 
-dirty-sweep : (x : ℕ) (l : List ℕ) (w : Work) → writeDirty x l w ≡ sweep (λ w. not (cleanShareMet x (w .cache))) (λ w. dirtyAt (w .cache .rows)) writeInPlace l w
-unfolding writeDirty sweep
+dirty-sweep : (x : ℕ) (l : List ℕ) (w : Work) → writeByTest x l w ≡ sweep (λ w. not (cleanShareMet x (w .cache))) (λ w. dirtyAt (w .cache .rows)) writeInPlace l w
+unfolding writeByTest sweep
 dirty-sweep x [] w = refl
 dirty-sweep x (a ∷ l) w = dirty-sweep x l _
 
 pub dirty-while : (x : ℕ) (w : Work) → Sound (w .cache)
     → While (λ w. not (cleanShareMet x (w .cache))) dirtyTurn w (writeDirty x (w .cache .recency) w)
 dirty-while x w k =
-    rw (dirty-sweep x (w .cache .recency) w)
+    rw (writes-as-before x (w .cache .recency) w, dirty-sweep x (w .cache .recency) w)
     (sweep-while (λ w. not (cleanShareMet x (w .cache))) (λ w. dirtyAt (w .cache .rows)) writeInPlace write-onward [] (w .cache .recency) w (fresh-at _ w k))
 
 -- ---- step 1: each turn gives an order, and only so many can come

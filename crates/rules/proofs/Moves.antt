@@ -5,7 +5,7 @@ use mathlib.Core.Path.{_≡_, refl, sym, ap, subst, _∙_}
 use mathlib.Core.Bool.{Bool, true, false, not}
 use mathlib.Core.Option.{Option, none, some, Option·map, Option·some-ne-none}
 use mathlib.Core.List.{List, [], _∷_, _++_}
-use lib.Dec.{eqb}
+use lib.Dec.{eqb, ltb}
 use lib.ListN.{length, length-append}
 use borrow.Author.Tests.{eqb-true, eq-eqb, not-true, not-false}
 use Rattle.rules.specs.declared.entry.Entry.{Entry}
@@ -16,7 +16,7 @@ use Rattle.rules.specs.Allowed.{Sound}
 use Rattle.rules.specs.Cache.{Cache, Work, withRows, withMaximum, withCounters}
 use Rattle.rules.specs.Entries.{if_then_else_, isListed, isClean, cleaned}
 use Rattle.rules.specs.Resizing.{evictAged, expel, agedAt, older}
-use Rattle.rules.specs.Room.{evict, write, writeInPlace, lacking, cleanShareMet, lookAtTail, tailTurn, cleanTurn, orStay, turns, evictBy, writeDirty, roomIn, makeRoom}
+use Rattle.rules.specs.Room.{evict, write, writeInPlace, lacking, shareMissing, lookAtTail, tailTurn, cleanTurn, orStay, turns, evictBy, writeDirty, roomIn, makeRoom}
 use Rattle.rules.specs.Rows.{get, passes, amend, amendAll, remove, cleanAt, dirtyAt}
 use Rattle.rules.proofs.Found.{get-remove, get-amend, get-amendAll, distinct-remove, distinct-amend, distinct-amendAll, pass-map, present}
 use Rattle.rules.proofs.Lists.{elem-append, elem-first, elem-rest, elem-strike, twice-strike, twice-last}
@@ -168,7 +168,7 @@ unfolding writeDirty
 dirty-moves x [] w k = done
 dirty-moves {sets} x (a ∷ l) w k =
     choose (λ (v : Work). Moves true sets w (writeDirty x l v)) _
-    (λ h. writes-one a l w k (w .cache .recency) refl (same-list (w .cache .recency)) (both (not (cleanShareMet x (w .cache))) (dirtyAt (w .cache .rows) a) h .1)
+    (λ h. writes-one a l w k (w .cache .recency) refl (same-list (w .cache .recency)) (both (ltb 0 (shareMissing x (w .cache))) (dirtyAt (w .cache .rows) a) h .1)
     (dirty-moves x l (writeInPlace a w) (listed-write a l (w .cache .recency) w (listed-rest a l w k))))
     (λ h. dirty-moves x l w (listed-rest a l w k))
 

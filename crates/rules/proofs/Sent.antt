@@ -4,7 +4,7 @@ use mathlib.Core.Path.{_≡_, refl, sym, ap, subst, _∙_}
 use mathlib.Core.Bool.{Bool, true, false, not, _&&_, _||_, false≢true, true≢false}
 use mathlib.Core.Option.{Option, none}
 use mathlib.Core.List.{List, [], _∷_, _++_, map}
-use lib.Dec.{eqb}
+use lib.Dec.{eqb, ltb}
 use borrow.Author.Tests.{eqb-true}
 use Rattle.rules.specs.declared.entry.Row.{Row}
 use Rattle.rules.specs.declared.order.Order.{Order}
@@ -15,7 +15,7 @@ use Rattle.rules.specs.Cache.{Cache, Work, start}
 use Rattle.rules.specs.Entries.{if_then_else_}
 use Rattle.rules.specs.Ledger.{Sends, flush, sync, hearList, names, isIn, dirtySize, ledgerOf}
 use Rattle.rules.specs.Requests.{effect, writesOf}
-use Rattle.rules.specs.Room.{write, writeInPlace, writeDirty, cleanShareMet}
+use Rattle.rules.specs.Room.{write, writeInPlace, writeDirty, shareMissing}
 use Rattle.rules.specs.Rows.{get, dirtyAt, dirtyRising}
 use Rattle.rules.proofs.Follow.{same-ledger, dirty-in, sizes-cleaned, takes-list}
 use Rattle.rules.proofs.Lists.{twice-last}
@@ -91,8 +91,8 @@ unfolding writeDirty
 sending-pass x [] c w k = k
 sending-pass x (a ∷ l) c w k =
     sending-pass x l c _
-    (choose (λ (v : Work). Sending c v) (not (cleanShareMet x (w .cache)) && dirtyAt (w .cache .rows) a)
-    (λ p. sending-write a c w k (both (not (cleanShareMet x (w .cache))) _ p .1)) (λ p. k))
+    (choose (λ (v : Work). Sending c v) (ltb 0 (shareMissing x (w .cache)) && dirtyAt (w .cache .rows) a)
+    (λ p. sending-write a c w k (both (ltb 0 (shareMissing x (w .cache))) _ p .1)) (λ p. k))
 
 sending-none : (c : Cache) → Sending c (start c)
 unfolding names twice

@@ -584,3 +584,41 @@ further =
       };
     }
     ∷ []
+
+-- ---- the clean share
+
+-- The same with evictions off.
+abbrev withoutEvictions : Settings → Settings
+withoutEvictions s = record {
+  evictions = false;
+  preset = s .preset;
+  initial = s .initial;
+  clean = s .clean;
+  largest = s .largest;
+  smallest = s .smallest;
+  epoch = s .epoch;
+  increase = s .increase;
+  increment = s .increment;
+  flash = s .flash;
+  decrease = s .decrease;
+  decrement = s .decrement;
+}
+
+-- After these calls so many bytes are missing: with the fraction 0.5 of 4,096.
+abbrev pub missing : List (Setup × ℕ)
+missing =
+    (alone sharing, 0)
+    -- one dirty entry; written
+    ∷ (later (ask (Insert 100 3000) ∷ []) (alone sharing), 952)
+    ∷ (later (ask (Insert 100 3000) ∷ ask Flush ∷ []) (alone sharing), 0)
+    -- held bytes above the maximum: none is unused, and no more is missing than the minimum
+    ∷ (later (ask (Insert 100 3000) ∷ ask (Insert 200 2000) ∷ []) (opened 4 Lead defaultThreshold sharing), 2048)
+    -- one byte short, and met
+    ∷ (later (ask (Insert 100 2047) ∷ ask Flush ∷ ask (Insert 200 2049) ∷ []) (opened 4 Lead defaultThreshold sharing), 1)
+    ∷ (later (ask (Insert 100 2048) ∷ ask Flush ∷ ask (Insert 200 2048) ∷ []) (opened 4 Lead defaultThreshold sharing), 0)
+    -- a pinned clean entry is not in the recency list
+    ∷ (later (ask (Protect Reading 100 3000) ∷ ask (Pin 100) ∷ ask (Release 100) ∷ []) (alone sharing), 952)
+    -- a standby, and with evictions off
+    ∷ (later (ask (Insert 100 3000) ∷ []) (opened 4 Standby defaultThreshold sharing), 952)
+    ∷ (later (ask (Insert 100 3000) ∷ ask (Insert 200 2000) ∷ []) (alone (withoutEvictions sharing)), 2048)
+    ∷ []

@@ -4,6 +4,7 @@ pub mod Addresses
 pub mod Rows
 pub mod Cache
 pub mod Room
+pub mod ShareTest
 pub mod Resizing
 pub mod Answers
 pub mod Messages

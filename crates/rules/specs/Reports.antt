@@ -7,6 +7,7 @@ use Rattle.rules.specs.declared.entry.Row.{Row}
 use Rattle.rules.specs.declared.report.Report.{Report}
 use Rattle.rules.specs.Cache.{Cache, held, minimumClean, due}
 use Rattle.rules.specs.Entries.{if_then_else_}
+use Rattle.rules.specs.Room.{shareMissing}
 use Rattle.rules.specs.Rows.{total}
 
 -- The bytes of the entries whose key is n.
@@ -31,6 +32,7 @@ reportOf c = record {
   entries = total (λ e. 1) (c .rows);
   maximum = c .maximum;
   clean = minimumClean c;
+  missing = shareMissing 0 c;
   count = c .count;
   due = due c;
   next = c .next;

@@ -3,7 +3,7 @@ use Prim.Native.Nat.{ℕ, zero, suc, _+_, _-_, _*_}
 use mathlib.Core.Bool.{Bool, not, _&&_, _||_}
 use mathlib.Core.Option.{Option, none, some, Option·map}
 use mathlib.Core.List.{List, [], _∷_, _++_}
-use lib.Dec.{leb, ltb}
+use lib.Dec.{ltb}
 use lib.ListN.{length}
 use Rattle.rules.specs.declared.order.Kind.{Kind}
 use Rattle.settings.specs.declared.Mode.{Mode}
@@ -25,9 +25,9 @@ cleanBytes rows (a ∷ rest) = (if cleanAt rows a then sizeAt rows a else 0) + c
 abbrev pub unusedBytes : ℕ → Cache → ℕ
 unusedBytes x c = c .maximum - (held c + x)
 
--- Clean bytes in the recency list plus unused bytes is at least the minimum clean bytes.
-abbrev pub cleanShareMet : ℕ → Cache → Bool
-cleanShareMet x c = leb (minimumClean c) (cleanBytes (c .rows) (recencyList c) + unusedBytes x c)
+-- The bytes that clean bytes in the recency list plus unused bytes are short of the minimum clean bytes; 0 where these are met.
+abbrev pub shareMissing : ℕ → Cache → ℕ
+shareMissing x c = minimumClean c - (cleanBytes (c .rows) (recencyList c) + unusedBytes x c)
 
 -- ---- the orders
 
@@ -86,11 +86,11 @@ evictBy turn x row w = turns (2 * length (w .cache .rows)) turn x row w
 
 -- ---- step 2, and sync
 
--- From the tail, while the clean share isn't met, each dirty entry is written and keeps its place.
+-- From the tail, while bytes are missing, each dirty entry is written and keeps its place.
 unfoldable pub writeDirty : ℕ → List ℕ → Work → Work
 writeDirty x [] w = w
 writeDirty x (a ∷ rest) w =
-    writeDirty x rest (if not (cleanShareMet x (w .cache)) && dirtyAt (w .cache .rows) a then writeInPlace a w else w)
+    writeDirty x rest (if ltb 0 (shareMissing x (w .cache)) && dirtyAt (w .cache .rows) a then writeInPlace a w else w)
 
 -- ---- both steps
 

@@ -9,6 +9,8 @@ pub struct Report {
     pub maximum: u64,
     // Minimum clean bytes.
     pub clean: u64,
+    // The bytes that the clean share lacks, with nothing incoming; 0 where it is met.
+    pub missing: u64,
     // The byte count since the last list.
     pub count: u64,
     // Whether a list is due.

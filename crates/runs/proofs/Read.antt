@@ -3,7 +3,7 @@ use Prim.Native.Nat.{ℕ, _+_, _*_}
 use mathlib.Core.Bool.{not, _&&_}
 use mathlib.Core.List.{List, [], _∷_, _++_, map}
 use mathlib.Core.Path.{_≡_, refl, ap, ap₂}
-use lib.Dec.{eqb}
+use lib.Dec.{eqb, ltb}
 use lib.ListN.{length, drop}
 use Rattle.rules.proofs.Tests.{choose}
 use Rattle.rules.specs.Cache.{Cache, Work, start, give}
@@ -11,7 +11,7 @@ use Rattle.rules.specs.Entries.{if_then_else_}
 use Rattle.rules.specs.History.{evictedBy, evictedBytes}
 use Rattle.rules.specs.Ledger.{Sends, flush, sync}
 use Rattle.rules.specs.Requests.{effect, writesOf}
-use Rattle.rules.specs.Room.{cleanShareMet, writeDirty, writeInPlace}
+use Rattle.rules.specs.Room.{shareMissing, writeDirty, writeInPlace}
 use Rattle.rules.specs.Rows.{dirtyAt, dirtyRising}
 use Rattle.rules.specs.declared.entry.Row.{Row}
 use Rattle.rules.specs.declared.order.Kind.the-variants.{Write, Evict, Load}
@@ -41,8 +41,8 @@ writes-dirty : (x : ℕ) (l : List ℕ) (w : Work) → Writes (w .orders) → Wr
 unfolding writeDirty
 writes-dirty x [] w k = k
 writes-dirty x (a ∷ l) w k =
-    writes-dirty x l (if not (cleanShareMet x (w .cache)) && dirtyAt (w .cache .rows) a then writeInPlace a w else w)
-    (choose (λ (v : Work). Writes (v .orders)) (not (cleanShareMet x (w .cache)) && dirtyAt (w .cache .rows) a) (λ h. writes-give a _ (w .orders) k) (λ h. k))
+    writes-dirty x l (if ltb 0 (shareMissing x (w .cache)) && dirtyAt (w .cache .rows) a then writeInPlace a w else w)
+    (choose (λ (v : Work). Writes (v .orders)) (ltb 0 (shareMissing x (w .cache)) && dirtyAt (w .cache .rows) a) (λ h. writes-give a _ (w .orders) k) (λ h. k))
 
 pub sends-writes : (c : Cache) (message : List ℕ) {r : Request} → Sends r → Writes (effect c message r .orders)
 unfolding effect

@@ -9,7 +9,8 @@ use Rattle.rules.specs.Room.{lacking}
 use Rattle.layout.proofs.Held.{holds-cache}
 use Rattle.layout.specs.Picture.{cacheIn, restIn}
 use Rattle.table.specs.Told.{dropped, turned, listedAt}
-use Rattle.room.proofs.Kept.{gave, kept-good, is-so, is-not, still-lacking, no-longer-lacking, held-fits}
+use Rattle.clean_share.proofs.Finding.{held-fits}
+use Rattle.room.proofs.Kept.{gave, kept-good, is-so, is-not, still-lacking, no-longer-lacking}
 use Rattle.room.proofs.Making.{Making, making-start, within, size-held, evicts-one, turns-one, making-skip, making-turn, making-evict, making-enough, making-nothing, making-in}
 use native.Mathlib.Omega.{arith}
 use borrow.Author.Needs.{needs}

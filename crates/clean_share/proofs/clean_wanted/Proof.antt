@@ -1,12 +1,11 @@
 -- The maximum, the settings and the held bytes are the cache's own.
 use mathlib.Core.Path.{refl}
 use Rattle.layout.specs.Picture.{cacheIn}
-use Rattle.room.proofs.Kept.{held-fits}
-use Rattle.room.proofs.Writing.{wanted-found}
+use Rattle.clean_share.proofs.Finding.{wanted-found, held-fits}
 use native.Mathlib.Omega.{arith}
 use borrow.Author.Needs.{needs}
-use Rattle.room.proofs.share.clean_wanted.Statement.{statement}
-use Rattle.room.proofs.share.clean_wanted.Tie as tie
+use Rattle.clean_share.proofs.clean_wanted.Statement.{statement}
+use Rattle.clean_share.proofs.clean_wanted.Tie as tie
 
 maximum-requires : tie.Need-maximum-requires
 maximum-requires c κs = search needs

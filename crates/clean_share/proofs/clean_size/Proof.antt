@@ -3,9 +3,9 @@ use mathlib.Core.Option.{some}
 use mathlib.Core.Path.{ap, sym, _∙_}
 use borrow.Author.Needs.{needs}
 use Rattle.table.proofs.Told.{row-fits, read-get}
-use Rattle.room.proofs.Writing.{size-dirty, size-clean}
-use Rattle.room.proofs.share.clean_size.Statement.{statement}
-use Rattle.room.proofs.share.clean_size.Tie as tie
+use Rattle.clean_share.proofs.Finding.{size-dirty, size-clean}
+use Rattle.clean_share.proofs.clean_size.Statement.{statement}
+use Rattle.clean_share.proofs.clean_size.Tie as tie
 
 recency-row-requires : tie.Need-recency-row-requires
 recency-row-requires c κs = search needs

@@ -7,8 +7,8 @@ use borrow.Author.Needs.{needs}
 use Rattle.rules.specs.Room.{cleanBytes}
 use Rattle.layout.specs.Picture.{cacheIn}
 use Rattle.table.proofs.Passes.{clean-next, clean-end}
-use Rattle.room.proofs.share.clean_missing.Statement.{statement}
-use Rattle.room.proofs.share.clean_missing.Tie as tie
+use Rattle.clean_share.proofs.clean_missing.Statement.{statement}
+use Rattle.clean_share.proofs.clean_missing.Tie as tie
 
 abbrev Inv-loop : tie.InvT-loop
 Inv-loop table rows wanted listed left₀ pos₀ left pos =
