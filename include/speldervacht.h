@@ -128,9 +128,9 @@ extern "C" {
 /* ---- version, of the header and the library; a table's version is its layout's and counts apart */
 
 #define SPELDERVACHT_VERSION_MAJOR 0
-#define SPELDERVACHT_VERSION_MINOR 2
+#define SPELDERVACHT_VERSION_MINOR 3
 #define SPELDERVACHT_VERSION_PATCH 0
-#define SPELDERVACHT_VERSION "0.2.0"
+#define SPELDERVACHT_VERSION "0.3.0"
 
 /* ---- sizes and limits */
 
@@ -329,6 +329,7 @@ typedef struct speldervacht_figures {
     uint64_t entries;                          /* how many */
     uint64_t maximum;                          /* what held bytes are to stay within */
     uint64_t clean;                            /* minimum clean bytes: what is to be clean or unused */
+    uint64_t missing;                          /* missing clean bytes: what is lacking of these; 0 if none is */
     uint64_t count;                            /* made dirty since the last list */
     uint64_t due;                              /* 1 if the count exceeds the threshold, else 0 */
     uint64_t next;                             /* number of the next message; 0: none is left */
@@ -342,7 +343,7 @@ SPELDERVACHT_STATIC_ASSERT(sizeof(struct speldervacht_answer) == 24, "3 words");
 SPELDERVACHT_STATIC_ASSERT(sizeof(struct speldervacht_verdict) == 16, "2 words");
 SPELDERVACHT_STATIC_ASSERT(sizeof(struct speldervacht_batched) == 24, "3 words");
 SPELDERVACHT_STATIC_ASSERT(sizeof(struct speldervacht_written) == 16, "2 words");
-SPELDERVACHT_STATIC_ASSERT(sizeof(struct speldervacht_figures) == 160, "20 words");
+SPELDERVACHT_STATIC_ASSERT(sizeof(struct speldervacht_figures) == 168, "21 words");
 
 /* ---- functions */
 
@@ -392,7 +393,9 @@ speldervacht_verdict speldervacht_ask(const uint64_t *table, size_t table_words,
                                       const uint8_t *message, size_t message_bytes,
                                       struct speldervacht_request request);
 
-/* Tells the figures of the cache in the table. */
+/* Tells the figures of the cache in the table. Missing clean bytes are the minimum clean bytes less the clean
+ * bytes of the recency list and the unused bytes, not below 0; unused bytes are the maximum less held bytes,
+ * not below 0. Held and pinned entries are not in that list: so bytes can be missing with nothing dirty. */
 speldervacht_figures speldervacht_report(const uint64_t *table, size_t table_words);
 
 /* Writes the message of a numbered list into the first SPELDERVACHT_MESSAGE_BYTES(list_words) bytes; the bytes

@@ -36,8 +36,20 @@ static speldervacht_settings small_settings(void) {
     return settings;
 }
 
+static uint64_t open_with(uint64_t mode, speldervacht_settings settings) {
+    return speldervacht_open(table, TABLE, ROWS, mode, SPELDERVACHT_DEFAULT_THRESHOLD, settings).number;
+}
+
 static uint64_t open_small(uint64_t mode) {
-    return speldervacht_open(table, TABLE, ROWS, mode, SPELDERVACHT_DEFAULT_THRESHOLD, small_settings()).number;
+    return open_with(mode, small_settings());
+}
+
+/* Whether a report is refused, and has no figure but 0. */
+static int is_refused(speldervacht_figures told) {
+    speldervacht_figures refused;
+    memset(&refused, 0, sizeof refused);
+    refused.number = SPELDERVACHT_BAD_TABLE;
+    return memcmp(&told, &refused, sizeof told) == 0;
 }
 
 static void three_inserts(void) {
@@ -117,8 +129,8 @@ static void refusals(void) {
     expect(checked_step(NULL, 0, NULL, 0, NULL, 0, configure).number == SPELDERVACHT_BAD_TABLE, "1");
     expect(checked_step(table, TABLE - 1, orders, ORDERS, NULL, 0, configure).number == SPELDERVACHT_BAD_TABLE,
            "a request on a short table");
-    expect(speldervacht_report(NULL, 0).number == SPELDERVACHT_BAD_TABLE, "the report of nothing");
-    expect(speldervacht_report(table, TABLE - 1).number == SPELDERVACHT_BAD_TABLE, "a short table");
+    expect(is_refused(speldervacht_report(NULL, 0)), "the report of nothing");
+    expect(is_refused(speldervacht_report(table, TABLE - 1)), "a short table");
     expect(speldervacht_open(table, TABLE - 1, ROWS, 0, 1, small_settings()).number == SPELDERVACHT_BAD_TABLE,
            "opening a short table");
     expect(open_small(3) == SPELDERVACHT_BAD_MODE, "opening in an unknown mode");
@@ -207,6 +219,98 @@ static void lists(void) {
     expect(step(SPELDERVACHT_INSERT, 5, 10).number == SPELDERVACHT_ACCEPTED, "a row again");
 }
 
+/* ---- missing clean bytes */
+
+/* A fresh cache of 4,096 bytes, half of which are to be clean or unused. */
+static void open_sharing(uint64_t mode, uint64_t evictions) {
+    speldervacht_settings settings = small_settings();
+    settings.evictions = evictions;
+    settings.clean = 0.5;
+    expect(open_with(mode, settings) == SPELDERVACHT_ACCEPTED, "opening with a clean fraction");
+}
+
+static void expect_missing(uint64_t missing, const char *what) {
+    speldervacht_figures figures = speldervacht_report(table, TABLE);
+    expect(figures.number == SPELDERVACHT_ACCEPTED && figures.clean == 2048 && figures.missing == missing, what);
+}
+
+/* A record at 100 that is clean: it is inserted, and written or named by the first message. */
+static void insert_clean(uint64_t mode, uint64_t size) {
+    const uint64_t list[] = {100};
+    step(SPELDERVACHT_INSERT, 100, size);
+    if (mode == SPELDERVACHT_STANDBY) {
+        expect(checked_take(table, TABLE, 1, list, 1) == SPELDERVACHT_ACCEPTED, "a list with one record");
+    } else {
+        expect(step(SPELDERVACHT_FLUSH, 0, 0).orders == 1, "a flush of one record");
+    }
+}
+
+static void missing(uint64_t mode, uint64_t evictions) {
+    speldervacht_figures figures;
+    open_sharing(mode, evictions);
+    expect_missing(0, "an empty cache");
+    step(SPELDERVACHT_INSERT, 100, 3000);
+    expect_missing(952, "a dirty record");
+    table[6]++;
+    expect(is_refused(speldervacht_report(table, TABLE)), "more hits than accesses");
+    open_sharing(mode, evictions);
+    insert_clean(mode, 3000);
+    expect_missing(0, "a clean record");
+    open_sharing(mode, evictions);
+    step(SPELDERVACHT_INSERT, 100, 3000);
+    step(SPELDERVACHT_PROTECT_FOR_WRITING, 100, 3000);
+    step(SPELDERVACHT_INSERT, 200, 2000);
+    figures = speldervacht_report(table, TABLE);
+    expect(figures.held == 5000 && figures.dirty == 5000, "5,000 held, all of them dirty");
+    expect_missing(2048, "held bytes above the maximum: none is unused");
+    for (uint64_t clean = 2047; clean <= 2048; clean++) {
+        open_sharing(mode, evictions);
+        insert_clean(mode, clean);
+        step(SPELDERVACHT_INSERT, 200, 4096 - clean);
+        expect_missing(2048 - clean, "held bytes at the maximum: a byte too few, and enough");
+    }
+    open_sharing(mode, evictions);
+    step(SPELDERVACHT_PROTECT_FOR_READING, 100, 3000);
+    expect_missing(952, "a clean record that is held");
+    step(SPELDERVACHT_PIN, 100, 0);
+    step(SPELDERVACHT_RELEASE_UNCHANGED, 100, 0);
+    expect_missing(952, "a clean record that is pinned");
+    step(SPELDERVACHT_UNPIN, 100, 0);
+    expect_missing(0, "a clean record in the recency list");
+}
+
+static void missing_in_each_mode(void) {
+    for (uint64_t mode = SPELDERVACHT_ALONE; mode <= SPELDERVACHT_STANDBY; mode++) {
+        missing(mode, 1);
+        missing(mode, 0);
+    }
+}
+
+/* A sync writes from the tail until none is missing. */
+static void sync_by_missing(void) {
+    for (uint64_t tail = 951; tail <= 952; tail++) {
+        open_sharing(SPELDERVACHT_LEAD, 1);
+        step(SPELDERVACHT_INSERT, 100, tail);
+        step(SPELDERVACHT_INSERT, 200, 1000);
+        step(SPELDERVACHT_INSERT, 300, 2000 - tail);
+        expect_missing(952, "three dirty records");
+        expect(step(SPELDERVACHT_SYNC, 0, 0).orders == 953 - tail, "two are written, or one if it is enough");
+        expect_missing(0, "after a sync");
+    }
+}
+
+/* The words of a report, in the order of the struct. */
+static void figure_words(void) {
+    const uint64_t expected[21] = {0, 4000, 3000, 2, 4096, 2048, 1952, 3000, 0, 2, 4000};
+    speldervacht_figures figures;
+    open_sharing(SPELDERVACHT_LEAD, 1);
+    step(SPELDERVACHT_SYNC, 0, 0);
+    step(SPELDERVACHT_INSERT, 100, 3000);
+    step(SPELDERVACHT_PROTECT_FOR_READING, 200, 1000);
+    figures = speldervacht_report(table, TABLE);
+    expect(sizeof figures == sizeof expected && memcmp(&figures, expected, sizeof expected) == 0, "21 words");
+}
+
 int main(void) {
     three_inserts();
     refusals();
@@ -215,5 +319,8 @@ int main(void) {
     rule_kinds();
     asking();
     everything_is_told();
+    missing_in_each_mode();
+    sync_by_missing();
+    figure_words();
     return outcome("all cases hold");
 }

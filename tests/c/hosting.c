@@ -173,6 +173,7 @@ static void no_row(void) {
     }
     step(SPELDERVACHT_PROTECT_FOR_READING, 0, 10);
     expect(step(SPELDERVACHT_INSERT, 100, 10).number == SPELDERVACHT_NO_ROW, "no row");
+    expect(speldervacht_report(table, TABLE).missing == 0, "the clean share is met");
     expect(step(SPELDERVACHT_SYNC, 0, 0).orders == 0, "a sync writes nothing");
     expect(step(SPELDERVACHT_INSERT, 100, 10).number == SPELDERVACHT_NO_ROW, "still no row");
     expect(step(SPELDERVACHT_FLUSH, 0, 0).number == SPELDERVACHT_HELD, "a flush is refused");
@@ -244,18 +245,63 @@ static void expect_orders(uint64_t mode, uint64_t kind, uint64_t address, uint64
     }
 }
 
+/* How often clean bytes were missing before an insert that wrote; before a sync that wrote enough, or too little; and
+ * with nothing dirty. */
+static unsigned before_insert, before_enough, before_too_little, with_nothing_dirty;
+
+/* The dirty records of the recency list. */
+static unsigned dirty_listed(void) {
+    unsigned count = 0;
+    for (size_t place = 30 + 6 * ROWS; place < 30 + 7 * ROWS && table[place] != UINT64_MAX; place++) {
+        count += table[30 + 6 * table[place] + 2] != 0;
+    }
+    return count;
+}
+
+/* What is missing is written by a sync, or by an insert if alone, as far as the recency list has dirty records. */
+static void expect_written(uint64_t mode, uint64_t kind, unsigned listed, uint64_t missing,
+                           speldervacht_answer answer) {
+    speldervacht_figures figures = speldervacht_report(table, TABLE);
+    uint64_t bytes = 0;
+    for (uint64_t i = 0; i < answer.orders; i++) {
+        bytes += orders[3 * i] == SPELDERVACHT_WRITE ? orders[3 * i + 2] : 0;
+    }
+    with_nothing_dirty += figures.missing != 0 && figures.dirty == 0;
+    if (answer.number != SPELDERVACHT_ACCEPTED || missing == 0) {
+        expect(kind != SPELDERVACHT_SYNC || bytes == 0, "a sync writes nothing where nothing is missing");
+        return;
+    }
+    if (kind == SPELDERVACHT_SYNC) {
+        expect(figures.missing == (missing > bytes ? missing - bytes : 0), "what is written is missing no longer");
+        expect(figures.missing == 0 || dirty_listed() == 0, "a sync writes enough, or all of the recency list");
+        before_enough += figures.missing == 0;
+        before_too_little += figures.missing != 0;
+    }
+    if (kind == SPELDERVACHT_INSERT && mode == SPELDERVACHT_ALONE) {
+        expect(bytes != 0 || listed == 0, "an insert writes what is missing");
+        before_insert += listed != 0;
+    }
+}
+
 static void random_requests(void) {
     for (unsigned i = 0, mode = 0; i < REQUESTS; i++) {
         uint64_t kind = below(50) == 0 ? 10 + below(2) : 1 + below(9);
         uint64_t address = below(14), size = 1 + below(below(4) == 0 ? 3000 : 600);
         speldervacht_answer answer;
+        uint64_t missing;
+        unsigned listed;
         if (i % 1000 == 0) {
             mode = (mode + 1) % MODES;
             open_cache(mode, small_settings());
         }
+        missing = speldervacht_report(table, TABLE).missing;
+        listed = dirty_listed();
         answer = step(kind, address, size);
         expect_orders(mode, kind, address, answer.orders);
+        expect_written(mode, kind, listed, missing, answer);
     }
+    expect(before_insert > 100 && before_enough > 10 && before_too_little > 10, "clean bytes were missing");
+    expect(with_nothing_dirty > 100, "with nothing dirty too");
     for (int mode = 0; mode < MODES; mode++) {
         int alone = mode == SPELDERVACHT_ALONE;
         for (int kind = SPELDERVACHT_WRITE; kind <= SPELDERVACHT_LOAD; kind++) {

@@ -313,7 +313,25 @@ impl Cache {
         self.step(&Request::Flush)
     }
 
-    /// Entries are written until enough is clean. A message is sent as at a [`flush`](Cache::flush).
+    /// Dirty entries of the recency list are written, the oldest first, until enough is clean, so that the
+    /// report's [`missing_clean`](Report::missing_clean) is 0, or until none is left. A message is sent as at a
+    /// [`flush`](Cache::flush).
+    ///
+    /// ```
+    /// use speldervacht::{Cache, Mode, Settings};
+    ///
+    /// // Half of 4,096 bytes are to be clean or unused.
+    /// let settings = Settings { clean_fraction: 0.5, ..Settings::fixed(4_096) };
+    /// let mut lead = Cache::builder().rows(4).mode(Mode::Lead).settings(settings).open()?;
+    /// lead.insert(100, 1_000)?;
+    /// lead.insert(200, 2_000)?;
+    /// assert_eq!(lead.report()?.missing_clean, 952);
+    ///
+    /// let orders: Vec<String> = lead.sync()?.map(|order| order.to_string()).collect();
+    /// assert_eq!(orders, ["write 100 1000"]);
+    /// assert_eq!(lead.report()?.missing_clean, 0);
+    /// # Ok::<(), speldervacht::Refusal>(())
+    /// ```
     ///
     /// # Errors
     ///

@@ -202,6 +202,10 @@ pub struct Report {
     pub maximum: u64,
     /// Minimum clean bytes: what is to be clean or unused.
     pub minimum_clean: u64,
+    /// Missing clean bytes: what the clean entries of the recency list and the unused bytes lack of the
+    /// minimum clean bytes, 0 if nothing. Unused bytes are the maximum less the held bytes, not below 0.
+    /// Held and pinned entries are not in the list: so bytes can be missing with nothing dirty.
+    pub missing_clean: u64,
     /// Bytes made dirty since the last list.
     pub count: u64,
     /// Whether the count exceeds the threshold, so that a list is due.
@@ -311,6 +315,7 @@ pub fn report(table: &[u64]) -> Result<Report, Refusal> {
             entries: figures.entries,
             maximum: figures.maximum,
             minimum_clean: figures.clean,
+            missing_clean: figures.missing,
             count: figures.count,
             due: figures.due != 0,
             next: figures.next,

@@ -84,6 +84,7 @@ pub struct Figures {
     pub entries: u64,
     pub maximum: u64,
     pub clean: u64,
+    pub missing: u64,
     pub count: u64,
     pub due: u64,
     pub next: u64,
@@ -96,7 +97,7 @@ const _: () = assert!(size_of::<Answer>() == 24);
 const _: () = assert!(size_of::<Verdict>() == 16);
 const _: () = assert!(size_of::<Batched>() == 24);
 const _: () = assert!(size_of::<Written>() == 16);
-const _: () = assert!(size_of::<Figures>() == 160);
+const _: () = assert!(size_of::<Figures>() == 168);
 
 extern "C" {
     /// Opens a fresh cache in the table.

@@ -120,6 +120,15 @@ fn views_agree(cache: &Cache) {
     assert!(cache.recency().map(fields).eq(run.map(|r| row(words, *r as usize))));
 }
 
+/// What is missing of the clean share is what the entries say. Gives it.
+fn missing_agrees(cache: &Cache) -> u64 {
+    let figures = cache.report().unwrap();
+    let clean: u64 = cache.recency().filter(|entry| !entry.dirty).map(|entry| entry.size).sum();
+    let unused = figures.maximum.saturating_sub(figures.held);
+    assert_eq!(figures.missing_clean, figures.minimum_clean.saturating_sub(clean + unused));
+    figures.missing_clean
+}
+
 #[test]
 fn a_cache_answers_as_the_functions_over_lent_words() {
     for (seed, mode) in [Mode::Alone, Mode::Lead, Mode::Standby].into_iter().cycle().take(30).enumerate() {
@@ -129,6 +138,7 @@ fn a_cache_answers_as_the_functions_over_lent_words() {
         let (mut table, mut orders) = (vec![0; table_words(ROWS)], vec![0; order_words(ROWS)]);
         open(&mut table, ROWS, mode, THRESHOLD, &settings()).unwrap();
         assert_eq!((cache.rows(), cache.mode(), cache.threshold()), (ROWS, mode, THRESHOLD));
+        let mut missing = 0;
         for _ in 0..1_000 {
             let message = some_message(&mut random, &cache);
             let request = some_request(&mut random, &message);
@@ -140,7 +150,9 @@ fn a_cache_answers_as_the_functions_over_lent_words() {
             assert_eq!(cache.as_words(), table);
             assert_eq!(cache.report(), report(&table));
             views_agree(&cache);
+            missing += u64::from(missing_agrees(&cache) > 0);
         }
+        assert!(missing > 0, "{mode:?}, seed {seed}: no clean byte was ever missing");
     }
 }
 

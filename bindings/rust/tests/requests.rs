@@ -43,6 +43,16 @@ impl Cache {
         Cache::open(rows, mode, DEFAULT_THRESHOLD, &small())
     }
 
+    /// The same, and half of the maximum is to be clean or unused.
+    fn sharing(mode: Mode, evictions: bool) -> Cache {
+        Cache::open(4, mode, DEFAULT_THRESHOLD, &Settings { clean_fraction: 0.5, evictions, ..small() })
+    }
+
+    /// What is missing of the clean share.
+    fn missing(&self) -> u64 {
+        report(&self.table).unwrap().missing_clean
+    }
+
     fn step(&mut self, request: Request) -> Result<Vec<String>, u64> {
         match step(&mut self.table, &mut self.orders, &request) {
             Ok(orders) => Ok(orders.iter().map(Order::to_string).collect()),
@@ -93,6 +103,7 @@ fn message(number: u64, list: &[u64]) -> Message {
 }
 
 const NONE: Result<Vec<String>, u64> = Ok(Vec::new());
+const MODES: [Mode; 3] = [Mode::Alone, Mode::Lead, Mode::Standby];
 
 #[test]
 fn a_third_insert_writes_both_and_evicts_the_oldest() {
@@ -228,6 +239,73 @@ fn a_lead_gives_up_only_clean_entries() {
     assert_eq!(lead.insert(3, 100), Err(11));
     assert_eq!(lead.step(Request::Flush).unwrap(), ["write 1 100", "write 2 100"]);
     assert_eq!(lead.insert(3, 100).unwrap(), ["evict 1 100"]);
+}
+
+/// A record at 100 that is clean: it is inserted, and written or named by the first message.
+fn insert_clean(cache: &mut Cache, mode: Mode, size: u64) {
+    cache.insert(100, size).unwrap();
+    match mode {
+        Mode::Standby => cache.take(&message(1, &[100])).unwrap(),
+        _ => cache.step(Request::Flush).unwrap(),
+    };
+}
+
+#[test]
+fn missing_clean_bytes_are_told_in_every_mode() {
+    for (mode, evictions) in MODES.into_iter().flat_map(|mode| [(mode, true), (mode, false)]) {
+        let mut cache = Cache::sharing(mode, evictions);
+        assert_eq!((report(&cache.table).unwrap().minimum_clean, cache.missing()), (2_048, 0));
+        cache.insert(100, 3_000).unwrap();
+        assert_eq!(cache.missing(), 952, "{mode:?}, a dirty record");
+        let mut cache = Cache::sharing(mode, evictions);
+        insert_clean(&mut cache, mode, 3_000);
+        assert_eq!(cache.missing(), 0, "{mode:?}, a clean record");
+        // Held bytes above the maximum: none is unused.
+        let mut cache = Cache::sharing(mode, evictions);
+        cache.insert(100, 3_000).unwrap();
+        cache.write(100, 3_000).unwrap();
+        cache.insert(200, 2_000).unwrap();
+        let figures = report(&cache.table).unwrap();
+        assert_eq!((figures.held, figures.dirty, figures.missing_clean), (5_000, 5_000, 2_048), "{mode:?}");
+        // Held bytes at the maximum: a byte too few, and enough.
+        for (clean, missing) in [(2_047, 1), (2_048, 0)] {
+            let mut cache = Cache::sharing(mode, evictions);
+            insert_clean(&mut cache, mode, clean);
+            cache.insert(200, 4_096 - clean).unwrap();
+            assert_eq!(cache.missing(), missing, "{mode:?}, {clean} bytes clean");
+        }
+        let mut cache = Cache::sharing(mode, evictions);
+        cache.read(100, 3_000).unwrap();
+        assert_eq!(cache.missing(), 952, "{mode:?}, a clean record that is held");
+        cache.step(Request::Pin { address: 100 }).unwrap();
+        cache.release(100).unwrap();
+        assert_eq!(cache.missing(), 952, "{mode:?}, a clean record that is pinned");
+        cache.step(Request::Unpin { address: 100 }).unwrap();
+        assert_eq!(cache.missing(), 0, "{mode:?}, a clean record in the recency list");
+    }
+}
+
+#[test]
+fn a_sync_writes_until_no_clean_bytes_are_missing() {
+    for (tail, written) in [(952, vec!["write 100 952"]), (951, vec!["write 100 951", "write 200 1000"])] {
+        let mut lead = Cache::sharing(Mode::Lead, true);
+        for (address, size) in [(100, tail), (200, 1_000), (300, 2_000 - tail)] {
+            lead.insert(address, size).unwrap();
+        }
+        assert_eq!(lead.missing(), 952);
+        assert_eq!(lead.step(Request::Sync).unwrap(), written);
+        assert_eq!(lead.missing(), 0);
+    }
+}
+
+#[test]
+fn a_refused_report_has_no_figures() {
+    let mut cache = Cache::sharing(Mode::Alone, true);
+    cache.insert(100, 3_000).unwrap();
+    cache.table[6] += 1;
+    // SAFETY: the slice is borrowed for the call.
+    let figures = unsafe { raw::speldervacht_report(cache.table.as_ptr(), cache.table.len()) };
+    assert_eq!(figures, raw::Figures { number: 1, ..raw::Figures::default() });
 }
 
 #[test]
