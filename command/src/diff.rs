@@ -92,6 +92,7 @@ impl<'a> Difference<'a> {
             ("maximum", thousands(a.report.maximum), thousands(b.report.maximum)),
             ("entries", thousands(a.report.entries), thousands(b.report.entries)),
             ("held bytes", thousands(a.report.held), thousands(b.report.held)),
+            ("missing clean bytes", thousands(a.report.missing_clean), thousands(b.report.missing_clean)),
         ];
         let of = |side: &Side| settings::lines(&settings::of(&side.table));
         lines.extend(of(a).into_iter().zip(of(b)).map(|((name, lead), (_, standby))| (name, lead, standby)));

@@ -111,6 +111,7 @@ fn figures(table: &Table, report: &Report) -> Vec<(&'static str, String)> {
         ("held bytes", bytes(report.held)),
         ("dirty bytes", bytes(report.dirty)),
         ("minimum clean bytes", bytes(report.minimum_clean)),
+        ("missing clean bytes", bytes(report.missing_clean)),
         ("a list is due", yes_or_no(report.due as u64).to_string()),
         ("bytes by idle count", if totals.is_empty() { "none".to_string() } else { totals.join("; ") }),
     ]
@@ -182,6 +183,7 @@ fn figures_json(report: &Report) -> Json {
         ("dirty", Json::Number(report.dirty)),
         ("entries", Json::Number(report.entries)),
         ("minimum_clean", Json::Number(report.minimum_clean)),
+        ("missing_clean", Json::Number(report.missing_clean)),
         ("due", Json::Flag(report.due)),
         ("totals", Json::list(report.totals, Json::Number)),
     ])
