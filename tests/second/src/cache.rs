@@ -5,8 +5,8 @@ use crate::boundary::{mode_of, request_of, settings_of, Asked, SettingsWords};
 use crate::library::{self, Answer, Batched, Verdict};
 use crate::message;
 use crate::messages;
-use crate::model::{self, order_words, Model, Order, Refusal, Report};
-use crate::reached::{AskPlace, BatchPlace};
+use crate::model::{self, order_words, Entry, Mode, Model, Order, Refusal, Report};
+use crate::reached::{AskPlace, BatchPlace, MissingPlace, MissingReached};
 use crate::table;
 use crate::tally::{Tally, OPENING};
 
@@ -27,6 +27,30 @@ fn same_message(message: &[u8], before: &[u8]) -> Result<(), Difference> {
         return differ("the message", message::text(message), message::text(before));
     }
     Ok(())
+}
+
+/// Counts what a report told of the clean share.
+fn count_missing(m: &Model, reached: &mut MissingReached) {
+    let mut mark = |place, when| reached.mark_when(place, when);
+    let share = m.clean_share(0);
+    let above_maximum = i128::from(m.held()) - i128::from(m.maximum);
+    if share.missing() == 0 {
+        mark(MissingPlace::NoneMissing, true);
+        mark(MissingPlace::JustMet, share.beyond() == 0 && share.clean > 0 && share.unused > 0);
+        // Unused bytes below 0 would make some missing.
+        mark(MissingPlace::MetAboveMaximum, share.beyond() < above_maximum);
+        return;
+    }
+    let any_entry = |test: fn(&Entry) -> bool| m.entries.values().any(test);
+    mark(MissingPlace::Missing, true);
+    mark(MissingPlace::MissingAlone, m.mode == Mode::Alone);
+    mark(MissingPlace::MissingLead, m.mode == Mode::Lead);
+    mark(MissingPlace::MissingStandby, m.mode == Mode::Standby);
+    mark(MissingPlace::MissingEvictionsOff, !m.settings.evictions);
+    mark(MissingPlace::MissingAboveMaximum, above_maximum > 0);
+    mark(MissingPlace::MissingNoneDirty, !any_entry(|e| e.is_listed() && e.dirty));
+    mark(MissingPlace::MissingOffList, any_entry(|e| !e.is_listed() && !e.dirty));
+    mark(MissingPlace::MissingOne, share.missing() == 1);
 }
 
 pub struct Cache {
@@ -252,11 +276,7 @@ impl Cache {
         let (done, given) = (came.answers.len(), came.orders.len() as u64);
         tally.requests += done as u64;
         tally.orders += given;
-        let mut mark = |place, when| {
-            if when {
-                tally.batches.mark(place);
-            }
-        };
+        let mut mark = |place, when| tally.batches.mark_when(place, when);
         let whole = requests.len() / REQUEST_WORDS;
         let for_answers = came.stopped_for_answers(answer_lent);
         let for_orders = came.number == 2 && !for_answers;
@@ -293,19 +313,8 @@ impl Cache {
 
     pub fn report(&mut self, lent: usize, tally: &mut Tally) -> Result<(), Difference> {
         let pictured = self.model.as_ref().filter(|m| lent >= table::table_words(m.rows));
-        let nothing = Report {
-            held: 0,
-            dirty: 0,
-            entries: 0,
-            maximum: 0,
-            minimum_clean: 0,
-            count: 0,
-            due: false,
-            next: 0,
-            totals: [0; 11],
-        };
         let expected = match pictured {
-            None => (1, nothing, 0),
+            None => (1, Report::default(), 0),
             Some(m) => {
                 let report = m.report();
                 let due = report.due as u64;
@@ -318,6 +327,10 @@ impl Cache {
         }
         self.expected_words_stand()?;
         tally.reports += 1;
+        match pictured {
+            None => tally.missing.mark(MissingPlace::ReportRefused),
+            Some(m) => count_missing(m, &mut tally.missing),
+        }
         Ok(())
     }
 

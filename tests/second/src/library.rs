@@ -187,6 +187,7 @@ pub fn report(table: &[u64]) -> (u64, Report, u64) {
         entries: f.entries,
         maximum: f.maximum,
         minimum_clean: f.clean,
+        missing: f.missing,
         count: f.count,
         due: f.due == 1,
         next: f.next,

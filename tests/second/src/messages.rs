@@ -367,11 +367,7 @@ const SYNC: u64 = 11;
 const TAKE: u64 = 12;
 
 fn count_take(m: &Model, message: &[u8], number: u64, tally: &mut Tally) {
-    let mut mark = |place, when| {
-        if when {
-            tally.messages.mark(place);
-        }
-    };
+    let mut mark = |place, when| tally.messages.mark_when(place, when);
     let limit = ROW_LIMIT as usize;
     let longer = message.len() > message_bytes(limit);
     mark(MessagePlace::Nothing, message.is_empty());

@@ -269,17 +269,40 @@ fn refused<T>(number: u64) -> Result<T, Refusal> {
     Err(Refusal { number, field: 0 })
 }
 
-#[derive(Clone, Debug, PartialEq, Eq)]
+#[derive(Clone, Debug, Default, PartialEq, Eq)]
 pub struct Report {
     pub held: u64,
     pub dirty: u64,
     pub entries: u64,
     pub maximum: u64,
     pub minimum_clean: u64,
+    pub missing: u64,
     pub count: u64,
     pub due: bool,
     pub next: u64,
     pub totals: [u64; 11],
+}
+
+/// What the clean share is made of, in bytes.
+#[derive(Clone, Copy, Debug, PartialEq, Eq)]
+pub struct CleanShare {
+    /// Clean, in entries neither held nor pinned.
+    pub clean: i128,
+    /// The maximum less held and incoming, not below 0.
+    pub unused: i128,
+    pub minimum: i128,
+}
+
+impl CleanShare {
+    /// How far clean and unused bytes are above the minimum; below 0, how far they are short of it.
+    pub fn beyond(&self) -> i128 {
+        self.clean + self.unused - self.minimum
+    }
+
+    /// How many bytes are missing, 0 when it is met.
+    pub fn missing(&self) -> i128 {
+        (-self.beyond()).max(0)
+    }
 }
 
 #[derive(Clone, Debug)]
@@ -351,6 +374,15 @@ impl Model {
         whole(self.maximum as f64 * self.settings.clean_fraction)
     }
 
+    pub fn clean_share(&self, incoming: u64) -> CleanShare {
+        let clean = self.entries.values().filter(|e| e.is_listed() && !e.dirty);
+        CleanShare {
+            clean: clean.map(|e| i128::from(e.size)).sum(),
+            unused: (i128::from(self.maximum) - i128::from(self.held()) - i128::from(incoming)).max(0),
+            minimum: i128::from(self.minimum_clean()),
+        }
+    }
+
     pub fn report(&self) -> Report {
         let mut totals = [0; 11];
         for e in self.entries.values() {
@@ -362,6 +394,7 @@ impl Model {
             entries: self.entries.len() as u64,
             maximum: self.maximum,
             minimum_clean: self.minimum_clean(),
+            missing: self.clean_share(0).missing() as u64,
             count: self.count,
             due: self.count > self.threshold,
             next: self.next,
@@ -424,7 +457,7 @@ impl Model {
         let unused = self.maximum.saturating_sub(self.held() + incoming);
         for a in listed {
             if clean + unused >= self.minimum_clean() {
-                return;
+                break;
             }
             let e = self.entries[&a];
             if e.dirty {
@@ -433,7 +466,9 @@ impl Model {
                 self.reached.mark(Place::ShareWrite);
             }
         }
-        if clean + unused < self.minimum_clean() {
+        let met = clean + unused >= self.minimum_clean();
+        assert_eq!(met, self.clean_share(incoming).missing() == 0, "bytes are missing just where the share is not met");
+        if !met {
             self.reached.mark(Place::ShareUnmet);
         }
     }

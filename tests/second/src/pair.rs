@@ -426,11 +426,7 @@ impl Hosts {
                     self.aside(aside, When::BetweenHalves, tally)?;
                 }
                 self.step(1 - first, asked, &[], 0, tally)?;
-                let mut mark = |place, when| {
-                    if when {
-                        tally.pairs.mark(place);
-                    }
-                };
+                let mut mark = |place, when| tally.pairs.mark_when(place, when);
                 mark(PairPlace::SharedRefused, answer.number != 0);
                 if answer.number == 0 {
                     mark(PairPlace::SharedAccepted, true);

@@ -22,6 +22,12 @@ macro_rules! places {
                 self.0[place as usize] += 1;
             }
 
+            pub fn mark_when(&mut self, place: $place, when: bool) {
+                if when {
+                    self.mark(place);
+                }
+            }
+
             pub fn add(&mut self, other: &$reached) {
                 for (mine, others) in self.0.iter_mut().zip(other.0) {
                     *mine += others;
@@ -72,6 +78,23 @@ places! { Place in Reached:
     Taken "number used by a standby's taking",
     TakenEmpty "  of an empty list",
     TakenLast "  the last number",
+}
+
+// What the reports told of the bytes that the clean share lacks.
+places! { MissingPlace in MissingReached:
+    Missing "reports of bytes missing",
+    MissingAlone "  alone",
+    MissingLead "  of a lead",
+    MissingStandby "  of a standby",
+    MissingEvictionsOff "  with evictions off",
+    MissingAboveMaximum "  with held bytes above the maximum",
+    MissingNoneDirty "  with nothing dirty in the recency list",
+    MissingOffList "  with clean bytes held or pinned",
+    MissingOne "  of one byte",
+    NoneMissing "reports of none missing",
+    JustMet "  and not a byte to spare",
+    MetAboveMaximum "  with held bytes above the maximum",
+    ReportRefused "reports refused",
 }
 
 // What messages are, and where no number is left.

@@ -375,6 +375,15 @@ fn address(r: &mut Random, m: &Model, kind: u64, phase: &Phase) -> u64 {
     found.unwrap_or_else(|| new_address(r, m))
 }
 
+/// Now and then: the most bytes, or the most growth, that the flash lets pass or the clean share can spare.
+fn most_that_passes(r: &mut Random, m: &Model) -> Option<u64> {
+    match (r.below(20), m.settings.flash) {
+        (0, Flash::On { threshold, .. }) => Some((threshold * m.maximum as f64) as u64),
+        (1, _) => u64::try_from(m.clean_share(0).beyond()).ok().filter(|spare| *spare > 0),
+        _ => None,
+    }
+}
+
 /// A request and its message.
 pub fn request(r: &mut Random, m: &Model, phase: &Phase, scale: Scale) -> (Asked, Message) {
     let kind = if m.no_row() && r.chance(50) {
@@ -394,10 +403,9 @@ pub fn request(r: &mut Random, m: &Model, phase: &Phase, scale: Scale) -> (Asked
             asked.size = (e.size + r.below(64)).saturating_sub(r.below(64));
         }
     }
-    if let (Flash::On { threshold, .. }, 1 | 2 | 3 | 5 | 8, true) = (m.settings.flash, kind, r.chance(5)) {
-        // As many bytes, or as much growth, as the flash just lets pass, or one more.
-        let passes = (threshold * m.maximum as f64) as u64 + r.below(2);
-        asked.size = passes + if kind < 5 { 0 } else { m.entries.get(&asked.address).map_or(0, |e| e.size) };
+    if let (Some(most), 1 | 2 | 3 | 5 | 8) = (most_that_passes(r, m), kind) {
+        let before = if kind < 5 { 0 } else { m.entries.get(&asked.address).map_or(0, |e| e.size) };
+        asked.size = before + most + r.below(2);
     }
     if kind == 13 || r.chance(1) {
         let good = r.chance(30);
@@ -477,7 +485,7 @@ pub fn state(r: &mut Random, rows: usize, mode: Mode, scale: Scale) -> Model {
         3 => threshold,
         _ => r.below(10_000),
     };
-    Model {
+    let mut m = Model {
         rows,
         mode,
         threshold,
@@ -490,6 +498,21 @@ pub fn state(r: &mut Random, rows: usize, mode: Mode, scale: Scale) -> Model {
         entries,
         recency: VecDeque::from(listed),
         reached: Reached::default(),
+    };
+    if r.chance(20) {
+        share_at_edge(r, &mut m);
+    }
+    m
+}
+
+/// The clean fraction becomes one by which the clean share is just met, or a byte above or below, if there is one.
+fn share_at_edge(r: &mut Random, m: &mut Model) {
+    let share = m.clean_share(0);
+    let minimum = share.clean + share.unused + r.below(3) as i128 - 1;
+    // A half more, so that no rounding changes the whole part.
+    let fraction = (minimum as f64 + 0.5) / m.maximum as f64;
+    if (0.0..=1.0).contains(&fraction) {
+        m.settings.clean_fraction = fraction;
     }
 }
 

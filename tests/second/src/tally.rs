@@ -3,7 +3,7 @@
 use crate::boundary::KINDS;
 use crate::library::Answer;
 use crate::messages::{Way, WAYS};
-use crate::reached::{AskReached, BatchReached, MessageReached, PairReached, Reached, WriterReached};
+use crate::reached::{AskReached, BatchReached, MessageReached, MissingReached, PairReached, Reached, WriterReached};
 
 /// How many answers there are: 0 is accepted, the others are refusals.
 const NUMBERS: usize = 17;
@@ -33,6 +33,7 @@ pub struct Tally {
     pub offered: u64,
     pub longest_list: u64,
     pub reached: Reached,
+    pub missing: MissingReached,
     pub asked: AskReached,
     pub batches: BatchReached,
     pub pairs: PairReached,
@@ -127,7 +128,9 @@ impl Tally {
         line(("damaged, and still a cache", self.damaged_good));
         line(("damaged, and no cache", self.damaged_bad));
         line(("orders", self.orders));
+        println!("\nreports");
         line(("reports", self.reports));
+        self.missing.iter().for_each(line);
         println!("\nmessages and numbers");
         line(("messages offered to standbys with few rows", self.offered));
         self.messages.iter().for_each(line);
@@ -148,7 +151,8 @@ impl Tally {
 
     /// What no run reached.
     pub fn never_reached(&self) -> Vec<String> {
-        let one_cache = self.reached.iter().chain(self.asked.iter()).chain(self.batches.iter());
+        let rules = self.reached.iter().chain(self.missing.iter());
+        let one_cache = rules.chain(self.asked.iter()).chain(self.batches.iter());
         let messages = self.messages.iter().chain(self.writer.iter());
         let places = one_cache.chain(messages).chain(self.pairs.iter());
         let places = places.filter(|(_, times)| *times == 0).map(|(name, _)| name.trim_start().to_string());

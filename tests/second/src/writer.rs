@@ -78,11 +78,7 @@ impl Writing {
     }
 
     fn count(&self, tally: &mut Tally) {
-        let mut mark = |place, when| {
-            if when {
-                tally.writer.mark(place);
-            }
-        };
+        let mut mark = |place, when| tally.writer.mark_when(place, when);
         let (count, needed) = (self.list.len(), message_bytes(self.list.len()));
         match self.refusal() {
             None => {

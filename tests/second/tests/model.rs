@@ -171,6 +171,97 @@ fn p9_to_p11() {
     assert_eq!(insert(&mut m, 3, 100), Ok(vec![Order::Evict { address: 1, size: 100 }]));
 }
 
+const MODES: [Mode; 3] = [Mode::Alone, Mode::Lead, Mode::Standby];
+
+/// A cache with 4,096 bytes, half of them the minimum clean bytes.
+fn half_clean(mode: Mode, evictions: bool) -> Model {
+    open(4, mode, 262_144, Settings { evictions, clean_fraction: 0.5, ..small_settings() })
+}
+
+fn half_clean_in_each_mode() -> impl Iterator<Item = Model> {
+    MODES.into_iter().flat_map(|mode| [true, false].map(|evictions| half_clean(mode, evictions)))
+}
+
+/// A clean entry comes into the recency list.
+fn load(m: &mut Model, address: u64, size: u64) {
+    read(m, address, size).unwrap();
+    release(m, address).unwrap();
+}
+
+#[test]
+fn bytes_missing_while_all_is_dirty() {
+    for mut m in half_clean_in_each_mode() {
+        assert_eq!((m.report().minimum_clean, m.report().missing), (2_048, 0));
+        insert(&mut m, 100, 3_000).unwrap();
+        assert_eq!(m.report().missing, 952);
+        match m.mode {
+            Mode::Standby => m.step(&Request::Take, &message::write(1, &[100]), 0).map_err(|r| r.number),
+            _ => step(&mut m, Request::Flush),
+        }
+        .unwrap();
+        assert_eq!(m.report().missing, 0);
+    }
+    for mut m in half_clean_in_each_mode() {
+        insert(&mut m, 100, 5_000).unwrap();
+        assert_eq!((m.report().held, m.report().missing), (5_000, 2_048));
+    }
+}
+
+#[test]
+fn one_byte_missing_and_none() {
+    for (clean, missing) in [(2_047, 1), (2_048, 0)] {
+        for mut m in half_clean_in_each_mode() {
+            load(&mut m, 100, clean);
+            insert(&mut m, 200, 4_096 - clean).unwrap();
+            assert_eq!((m.report().held, m.report().missing), (4_096, missing));
+        }
+    }
+    // With unused bytes beside the clean ones.
+    for (dirty, missing) in [(2_048, 0), (2_049, 1)] {
+        for mut m in half_clean_in_each_mode() {
+            load(&mut m, 100, 1_000);
+            insert(&mut m, 200, dirty).unwrap();
+            assert_eq!(m.report().missing, missing);
+        }
+    }
+}
+
+#[test]
+fn clean_bytes_held_or_pinned_are_missing() {
+    for mut m in half_clean_in_each_mode() {
+        read(&mut m, 100, 3_000).unwrap();
+        assert_eq!(m.report().missing, 952);
+        step(&mut m, Request::Pin { address: 100 }).unwrap();
+        assert_eq!(m.report().missing, 952);
+        release(&mut m, 100).unwrap();
+        assert_eq!((m.report().dirty, m.report().missing), (0, 952));
+        step(&mut m, Request::Unpin { address: 100 }).unwrap();
+        assert_eq!(m.report().missing, 0);
+    }
+}
+
+#[test]
+fn sync_writes_until_no_byte_is_missing() {
+    let mut r = Random::new(7);
+    let mut written = 0;
+    for _ in 0..20_000 {
+        let rows = r.between(1, 12) as usize;
+        let mut m = requests::state(&mut r, rows, Mode::Lead, Scale::Tight);
+        let missing = m.report().missing;
+        let Ok(orders) = step(&mut m, Request::Sync) else { continue };
+        let sizes: Vec<u64> = orders.iter().map(|order| order.words()[2]).collect();
+        let any_dirty = m.recency.iter().any(|a| m.entries[a].dirty);
+        let left = missing.saturating_sub(sizes.iter().sum());
+        assert!(left == 0 || !any_dirty);
+        if let Some((_, before_last)) = sizes.split_last() {
+            assert!(before_last.iter().sum::<u64>() < missing);
+        }
+        assert_eq!(m.report().missing, left);
+        written += orders.len();
+    }
+    assert!(written > 5_000, "{written} orders");
+}
+
 #[test]
 fn an_entry_used_in_one_epoch_goes_at_the_end_of_the_next() {
     let settings = Settings { decrease: Decrease::AgeOut { epochs: 1, reserve: 1.0 }, ..small_settings() };
@@ -198,7 +289,7 @@ fn the_judge_finds_what_was_pictured() {
     for _ in 0..3_000 {
         let rows = r.between(1, 40) as usize;
         let scale = Scale::any(&mut r);
-        let mode = r.pick(&[Mode::Alone, Mode::Lead, Mode::Standby]);
+        let mode = r.pick(&MODES);
         let state = requests::state(&mut r, rows, mode, scale);
         let mut words = picture(&state);
         assert_eq!(words.len(), table_words(rows));
