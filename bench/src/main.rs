@@ -378,6 +378,12 @@ fn time_case(case: &Case) -> Figures {
     Figures { library, model }
 }
 
+fn time_report(cache: &Model) -> Figures {
+    let words = picture(cache);
+    let library = time(|| (), |()| library::report(&words));
+    Figures { library, model: time(|| (), |()| cache.report()) }
+}
+
 fn short(microseconds: f64) -> String {
     match microseconds {
         t if t < 10.0 => format!("{t:.2}"),
@@ -420,10 +426,11 @@ fn main() {
             let beside = format!("{:.1}", figures.library / judging);
             put(case.name, [short(figures.library), beside, short(figures.model)]);
         }
-        let report = time(|| (), |()| library::report(&words));
-        let model = time(|| (), |()| clean.report());
-        let beside = format!("{:.1}", report / judging);
-        put("report", [short(report), beside, short(model)]);
+        // The clean bytes are counted to the half that is to be clean, and where all is dirty to the list's end.
+        for (name, cache) in [("report", clean), ("report, all rows dirty", full_cache(rows, Mode::Alone, true))] {
+            let Figures { library, model } = time_report(&cache);
+            put(name, [short(library), format!("{:.1}", library / judging), short(model)]);
+        }
         for case in cases(rows) {
             let Some(Asking { name, scans }) = case.asking else { continue };
             let figures = time_asking(&case);
