@@ -587,7 +587,7 @@ further =
 
 -- ---- the clean share
 
--- The same with evictions off.
+-- Settings with evictions off.
 abbrev withoutEvictions : Settings → Settings
 withoutEvictions s = record {
   evictions = false;
