@@ -7,7 +7,7 @@ use Rattle.fraction.specs.Examples.{every}
 use Rattle.fraction.specs.Fraction.{sizeProduct, hitRate, reserveQuotient, exceedsShare}
 use Rattle.settings.specs.Validation.{firstBad}
 use Rattle.rules.specs.Addresses.{elem, strike, someAddress, nearest, twice, insertRising}
-use Rattle.rules.specs.Cases.{cases, further, missing, ran, run, after, reversed, cacheOf, isValid}
+use Rattle.rules.specs.Cases.{cases, further, full, missing, exceeding, ran, run, after, reversed, cacheOf, isValid}
 use Rattle.rules.specs.Messages.{bytesOf, addressFields, messageOf, feed, feedAll, readMessage}
 use Rattle.rules.specs.Opening.{refusalOfOpening}
 use Rattle.rules.specs.Refusals.{firstOf, tests, refusalOf}
@@ -30,7 +30,11 @@ pub worked-further : map ran further ≡ map (λ x. x .gives) further
 unfolding computing cacheOf run after reversed
 worked-further = refl
 
-pub valid : every (λ x. isValid (x .setup)) (cases ++ further) ≡ true
+pub worked-full : map ran full ≡ map (λ x. x .gives) full
+unfolding computing cacheOf run after reversed
+worked-full = refl
+
+pub valid : every (λ x. isValid (x .setup)) (cases ++ (further ++ full)) ≡ true
 unfolding computing every isValid cacheOf after
 valid = refl
 
@@ -43,3 +47,13 @@ worked-missing = refl
 pub missing-valid : every (λ x. isValid (x .0)) missing ≡ true
 unfolding computing every isValid cacheOf after
 missing-valid = refl
+
+-- ---- what is stored of full
+
+pub worked-exceeding : map (λ x. cacheOf (x .0) .exceeded) exceeding ≡ map (λ x. x .1) exceeding
+unfolding computing cacheOf after
+worked-exceeding = refl
+
+pub exceeding-valid : every (λ x. isValid (x .0)) exceeding ≡ true
+unfolding computing every isValid cacheOf after
+exceeding-valid = refl

@@ -20,7 +20,7 @@ use Rattle.rules.specs.declared.request.Request.{Request}
 use Rattle.rules.specs.declared.request.Request.the-variants.{Insert, Protect, Release, ReleaseChanged, Pin, Unpin, Resize, Discard, Flush, Sync, Take, Configure}
 use Rattle.rules.specs.Addresses.{insertRising}
 use Rattle.rules.specs.Allowed.{Sound, HoldAllowed, EntryAllowed}
-use Rattle.rules.specs.Cache.{Cache, Work, start, held, touch, amendAt, withRows, withMaximum, withCounters, withCount, withNext}
+use Rattle.rules.specs.Cache.{Cache, Work, start, held, touch, amendAt, withRows, withMaximum, withCounters, withCount, withNext, withExceeded}
 use Rattle.rules.specs.Entries.{isHeld, isListed, forbids, joined, lessOne, withPin, cleaned, changedTo, protectedFor, released, newEntry}
 use Rattle.rules.specs.History.{evictedBytes, broughtIn, newSize, oldSize, thrownAway}
 use Rattle.rules.specs.Kept.{Kept}
@@ -44,15 +44,15 @@ use Rattle.rules.proofs.Totals.{figureOf, total-remove, total-amend, to
 
 -- ---- a flash
 
--- a flash changes the maximum and the counters alone
-pub flash-elim : (P : Cache → Type 0) (x : ℕ) (c : Cache) → ((n h k : ℕ) → P (withCounters h k (withMaximum n c))) → P (flashed x c)
+-- a flash changes the maximum, the counters and what was found since alone
+pub flash-elim : (P : Cache → Type 0) (x : ℕ) (c : Cache) → ((n h k : ℕ) (b : Bool) → P (withExceeded b (withCounters h k (withMaximum n c)))) → P (flashed x c)
 unfolding flashed
 flash-elim P x c f =
     choose P (ltb (c .maximum) (flashedTo x c))
-    (λ h. f (flashedTo x c) 0 0) (λ h. f (c .maximum) (c .accesses) (c .hits))
+    (λ h. f (flashedTo x c) 0 0 false) (λ h. f (c .maximum) (c .accesses) (c .hits) (c .exceeded))
 
 pub flash-sound : (x : ℕ) (c : Cache) → Sound c → Sound (flashed x c)
-flash-sound x c k = flash-elim Sound x c (λ n h i. sound-same c (withCounters h i (withMaximum n c)) refl refl k)
+flash-sound x c k = flash-elim Sound x c (λ n h i b. sound-same c (withExceeded b (withCounters h i (withMaximum n c))) refl refl k)
 
 -- ---- room for a new entry
 
@@ -72,7 +72,7 @@ ready a s c k n f =
     record {
       moves = m;
       sound = moves-sound m k;
-      free = room-free s (start (flashed s c)) (flash-sound s c k) (flash-elim (λ (d : Cache). noRow d ≡ false) s c (λ n h i. f));
+      free = room-free s (start (flashed s c)) (flash-sound s c k) (flash-elim (λ (d : Cache). noRow d ≡ false) s c (λ n h i b. f));
       absent = moved m k .absent a (absent (get (c .rows) a) n);
     }
 
@@ -246,7 +246,7 @@ same-books c = record { rows = refl; recency = refl; mode = refl; next = refl; t
 pub named-books : (a s : ℕ) (c : Cache) → SameBooks c (named a s c)
 named-books a s c =
     flash-elim (λ (d : Cache). SameBooks c (withCount (adds (dirtyAt (c .rows) a) s (c .count)) d)) (s - sizeAt (c .rows) a) c
-    (λ n h k. record { rows = refl; recency = refl; mode = refl; next = refl; threshold = refl })
+    (λ n h k b. record { rows = refl; recency = refl; mode = refl; next = refl; threshold = refl })
 
 pub named-sound : (a s : ℕ) (c : Cache) → Sound c → Sound (named a s c)
 named-sound a s c k = let b = named-books a s c in sound-same c (named a s c) (b .rows) (b .recency) k

@@ -13,7 +13,7 @@ use Rattle.rules.specs.Entries.{isHeld}
 use Rattle.rules.specs.Requests.{roomIfReleased}
 use Rattle.rules.specs.Resizing.{flashed, evictAged, ageOut, lower, isAbove, decreasedBy, resized, aged, endEpoch, counts, counted, countAccess, flashedTo, increasedIn, loweredIn}
 use Rattle.rules.specs.Rows.{get, passes}
-use Rattle.rules.proofs.Moves.{Moves, done, tunes, ages, moves-trans, room-moves, room-after, aged-moves, sound-same, sound-listed}
+use Rattle.rules.proofs.Moves.{Moves, done, tunes, ages, notes, moves-trans, room-moves, room-after, aged-moves, sound-same, sound-listed}
 use Rattle.rules.proofs.Tests.{choose}
 use Rattle.rules.specs.Refusals.{isAlone}
 
@@ -21,7 +21,7 @@ pub flash-moves : {may : Bool} (x : ℕ) (c : Cache) → Moves may true (start c
 unfolding flashed
 flash-moves {may} x c =
     choose (λ (d : Cache). Moves may true (start c) (start d)) (ltb (c .maximum) (flashedTo x c))
-    (λ h. tunes (flashedTo x c) 0 0 refl done) (λ h. done)
+    (λ h. tunes (flashedTo x c) 0 0 refl (notes false done)) (λ h. done)
 
 -- ---- the decrease
 
@@ -57,7 +57,7 @@ module _ (w : Work) (k : Sound (w .cache)) where
   pub before-room : Moves (isAlone (w .cache .mode)) true w (aged (resized (hitRate (w .cache .hits) (w .cache .accesses)) w))
   before-room =
       let v = resized (hitRate (w .cache .hits) (w .cache .accesses)) w in
-      moves-trans (resized-moves (hitRate (w .cache .hits) (w .cache .accesses))) (ages refl (tunes (v .cache .maximum) 0 0 refl done))
+      moves-trans (resized-moves (hitRate (w .cache .hits) (w .cache .accesses))) (ages refl (tunes (v .cache .maximum) 0 0 refl (notes false done)))
 
   epoch-moves : Moves (isAlone (w .cache .mode)) true w (endEpoch w)
   unfolding endEpoch

@@ -28,7 +28,7 @@ use Rattle.rules.specs.Requests.{adds, brought, configured}
 use Rattle.rules.specs.Resizing.{flashMaximum, flashed, increasedBy, atMost, atLeast, lower, evictAged, ageOut, decreasedBy, resized, aged, endEpoch, counts, counted, countAccess, isFull, isBelow, isAbove, flashedTo, increasedIn, loweredIn}
 use Rattle.rules.specs.Room.{makeRoom}
 use Rattle.rules.proofs.Epochs.{before-room}
-use Rattle.rules.proofs.Moves.{Moves, done, evicts, writes, tunes, ages, moves-sound, room-moves, aged-moves, sound-listed, sound-same}
+use Rattle.rules.proofs.Moves.{Moves, done, evicts, writes, tunes, ages, notes, moves-sound, room-moves, aged-moves, sound-listed, sound-same}
 use Rattle.rules.proofs.Tests.{choose, both, neither}
 
 -- ---- settings that configuring passes
@@ -107,6 +107,7 @@ moves-figures (evicts a e g l d m) = moves-figures m
 moves-figures (writes a e r k g l d s m) = moves-figures m
 moves-figures (tunes n h k y m) = absurd (false≢true y)
 moves-figures (ages y m) = absurd (false≢true y)
+moves-figures (notes b m) = moves-figures m
 
 pub room-figures : (P : Figures → Type 0) (x : ℕ) (row : Bool) (w : Work) → Sound (w .cache) → P (figuresOf (w .cache)) → P (figuresOf (makeRoom x row w .cache))
 room-figures P x row w k p = subst P (sym (moves-figures (room-moves x row w k))) p

@@ -26,7 +26,7 @@ use Rattle.rules.specs.Rows.{get, passes, amend, amendEach, place, isHer
 use Rattle.rules.proofs.Effects.{Ready, ready, roomFor, named-books, named-sound}
 use Rattle.rules.proofs.Epochs.{count-moves, released-moves}
 use Rattle.rules.proofs.Found.{get-remove, get-amend, get-amendAll, get-place, absent}
-use Rattle.rules.proofs.Moves.{Moves, done, evicts, writes, tunes, ages, moves-mode, room-moves, sound-same}
+use Rattle.rules.proofs.Moves.{Moves, done, evicts, writes, tunes, ages, notes, moves-mode, room-moves, sound-same}
 use Rattle.rules.proofs.Sound.{sound-touch, sound-load}
 use Rattle.rules.proofs.Steps.{failed}
 use Rattle.rules.proofs.Tests.{split, choose, if-same, either}
@@ -93,6 +93,7 @@ moves-ledger h (evicts {w} a e g l d m) = moves-ledger h m ∙ same-ledger (λ b
     go b = split (eqb a b) (λ q. simp q (sym (ap dirtySize (sym (at-same a b (w .cache .rows) q) ∙ g) ∙ clean-size e d))) (λ q. simp q)
 moves-ledger {may} h (writes a e r y g l d s m) = either may y h
 moves-ledger h (tunes n i k y m) = moves-ledger h m
+moves-ledger h (notes b m) = moves-ledger h m
 moves-ledger h (ages {w} y m) = moves-ledger h m ∙ same-ledger (λ b. rw (get-amendAll older (λ e. refl) b (w .cache .rows)) (go (get (w .cache .rows) b))) refl
   where
     go : (o : Option Entry) → dirtySize (Option·map older o) ≡ dirtySize o

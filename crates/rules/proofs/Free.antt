@@ -19,12 +19,12 @@ use Rattle.rules.specs.Entries.{if_then_else_, isListed, isClean, cleane
 use Rattle.rules.specs.Loops.{While, met, none-left, again}
 use Rattle.rules.specs.Refusals.{noRow, mayEvict}
 use Rattle.rules.specs.Resizing.{older}
-use Rattle.rules.specs.Room.{evict, write, overfull, lacking, lookAtTail, tailTurn, cleanTurn, evictBy, roomIn, makeRoom}
+use Rattle.rules.specs.Room.{evict, write, overfull, lacking, lookAtTail, tailTurn, cleanTurn, evictBy, roomIn, noticed, makeRoom}
 use Rattle.rules.specs.Rows.{amendAll, hasFree, cleanAt, dirtyAt}
 use Rattle.rules.proofs.Found.{free-remove, free-removed, free-amend}
 use Rattle.rules.proofs.Lists.{elem-first}
 use Rattle.rules.proofs.Loops.{clean-while, tail-while}
-use Rattle.rules.proofs.Moves.{Moves, done, evicts, writes, tunes, ages, Turning, tail-turns, clean-turns, turns-move, nearest-in, sound-listed, dirty-moves, moves-sound}
+use Rattle.rules.proofs.Moves.{Moves, done, evicts, writes, tunes, ages, notes, Turning, tail-turns, clean-turns, turns-move, nearest-in, sound-listed, dirty-moves, moves-sound, sound-same}
 use Rattle.rules.proofs.Tests.{split, choose, or-true, or-false, and-true}
 
 -- ---- moves keep a free row
@@ -40,6 +40,7 @@ free-moves done h = h
 free-moves (evicts {w} a e g l d m) h = free-moves m (free-remove a (w .cache .rows) h)
 free-moves (writes {w} a e r k g l d s m) h = free-moves m (free-amend a cleaned (w .cache .rows) ∙ h)
 free-moves (tunes n i k y m) h = free-moves m h
+free-moves (notes b m) h = free-moves m h
 free-moves (ages {w} y m) h = free-moves m (free-all older (w .cache .rows) ∙ h)
 
 -- ---- a loop that wants a row
@@ -116,16 +117,11 @@ free-or : (free found : Bool) → not free && not found ≡ false → free || fo
 free-or true found h = refl
 free-or false found h = not-false found h
 
-pub room-free : (x : ℕ) (w : Work) → Sound (w .cache) → noRow (w .cache) ≡ false → hasFree (makeRoom x true w .cache .rows) ≡ true
-unfolding makeRoom roomIn
-room-free x w k n =
-    choose (λ (v : Work). hasFree (v .cache .rows) ≡ true) (w .cache .settings .evictions)
-    (λ on. go (w .cache .mode) (free-or free _ (simp on at n)))
-    (λ off. not-false free (simp (off, and-true) at n))
+free-in : (x : ℕ) (w : Work) → Sound (w .cache) → (m : Mode) → hasFree (w .cache .rows) || someAddress (mayEvict m (w .cache .rows)) (w .cache .recency) ≡ true
+    → hasFree (roomIn m x true w .cache .rows) ≡ true
+unfolding roomIn
+free-in x w k = go
   where
-    free : Bool
-    free = hasFree (w .cache .rows)
-
     clean : hasFree (w .cache .rows) || someAddress (cleanAt (w .cache .rows)) (w .cache .recency) ≡ true
         → hasFree (roomIn Lead x true w .cache .rows) ≡ true
     clean g = free-while x (clean-turns {may = false}) clean-gives (clean-while x true w k) k (rw (nearest-some (cleanAt (w .cache .rows)) (w .cache .recency) w) g)
@@ -138,3 +134,13 @@ room-free x w k n =
         (free-while x tail-turns tail-gives (tail-while x true w k) k (rw (tail-some (w .cache .recency) w) g))
     go Lead g = clean g
     go Standby g = clean g
+
+pub room-free : (x : ℕ) (w : Work) → Sound (w .cache) → noRow (w .cache) ≡ false → hasFree (makeRoom x true w .cache .rows) ≡ true
+unfolding makeRoom
+room-free x w k n =
+    choose (λ (v : Work). hasFree (v .cache .rows) ≡ true) (w .cache .settings .evictions)
+    (λ on. free-in x (noticed x w) (sound-same (w .cache) (noticed x w .cache) refl refl k) (w .cache .mode) (free-or free _ (simp on at n)))
+    (λ off. not-false free (simp (off, and-true) at n))
+  where
+    free : Bool
+    free = hasFree (w .cache .rows)

@@ -30,7 +30,7 @@ use Rattle.rules.proofs.Effects.{ready, roomFor, named-sound}
 use Rattle.rules.proofs.Epochs.{count-moves, released-moves}
 use Rattle.rules.proofs.Found.{get-remove, get-amend, get-amendAll, get-place, present}
 use Rattle.rules.proofs.Lists.{elem-first, elem-rest}
-use Rattle.rules.proofs.Moves.{Moves, done, evicts, writes, tunes, ages, tuned, idled, room-moves, dirty-moves, sound-listed, sound-same}
+use Rattle.rules.proofs.Moves.{Moves, done, evicts, writes, tunes, ages, notes, tuned, noted, idled, room-moves, dirty-moves, sound-listed, sound-same}
 use Rattle.rules.proofs.Rising.{flush-order, rising-once}
 use Rattle.rules.proofs.Sound.{sound-touch, sound-load}
 use Rattle.rules.proofs.Steps.{failed, stepped}
@@ -101,6 +101,7 @@ moves-lead (writes {w} a e r y g l d s m) =
     (λ k. write a (sizeAt (w .cache .rows) a) (isListed e) (rw (g, d)) k))
     (moves-lead m)
 moves-lead (tunes {w} n h k y m) = leads-trans (leads-same w (tuned n h k w) refl refl) (moves-lead m)
+moves-lead (notes {w} b m) = leads-trans (leads-same w (noted b w) refl refl) (moves-lead m)
 moves-lead (ages {w} y m) = leads-trans (leads-same w (idled w) refl (fun-ext (λ b. rw (get-amendAll older (λ e. refl) b (w .cache .rows)) (go (get (w .cache .rows) b))))) (moves-lead m)
   where
     go : (o : Option Entry) → Option·map standing o ≡ Option·map standing (Option·map older o)

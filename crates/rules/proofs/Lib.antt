@@ -19,6 +19,7 @@ pub mod Effects
 pub mod Kept
 pub mod History
 pub mod Figures
+pub mod Full
 pub mod Allowed
 pub mod Rising
 pub mod Follow

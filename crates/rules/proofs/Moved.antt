@@ -22,7 +22,7 @@ use Rattle.rules.specs.Room.{evict, write}
 use Rattle.rules.specs.Rows.{get, total}
 use Rattle.rules.proofs.Found.{get-remove, get-amend, get-amendAll, length-remove, length-amend, length-amendAll}
 use Rattle.rules.proofs.Fit.{Fit, fit-remove, fit-amend, fit-all, clean-allowed}
-use Rattle.rules.proofs.Moves.{Moves, done, evicts, writes, tunes, ages, tuned, idled, sound-remove, sound-write, sound-ages, sound-same}
+use Rattle.rules.proofs.Moves.{Moves, done, evicts, writes, tunes, ages, notes, tuned, noted, idled, sound-remove, sound-write, sound-ages, sound-same}
 use Rattle.rules.proofs.Tests.{if-same}
 use Rattle.rules.proofs.Totals.{total-remove, total-amend, total-same, total-all}
 
@@ -110,6 +110,9 @@ moved-ages w = record {
 moved-tunes : (n h k : ℕ) (w : Work) → Moved w (tuned n h k w)
 moved-tunes n h k w = record { kept = record { threshold = refl; rows = refl }; absent = λ b i. i; entries = λ f. f; held = refl; orders = refl }
 
+moved-notes : (b : Bool) (w : Work) → Moved w (noted b w)
+moved-notes b w = record { kept = record { threshold = refl; rows = refl }; absent = λ b i. i; entries = λ f. f; held = refl; orders = refl }
+
 -- ---- moves
 
 pub moved : {may sets : Bool} {w v : Work} → Moves may sets w v → Sound (w .cache) → Moved w v
@@ -118,3 +121,4 @@ moved (evicts {w} a e g l d m) k = moved-trans (moved-evict a w e k g l d) (move
 moved (writes {w} a e r y g l d s m) k = moved-trans (moved-write a w e k g l r d) (moved m (sound-write a r (w .cache) s k))
 moved (tunes {w} n h i y m) k = moved-trans (moved-tunes n h i w) (moved m (sound-same (w .cache) (tuned n h i w .cache) refl refl k))
 moved (ages {w} y m) k = moved-trans (moved-ages w) (moved m (sound-ages (w .cache) k))
+moved (notes {w} b m) k = moved-trans (moved-notes b w) (moved m (sound-same (w .cache) (noted b w .cache) refl refl k))

@@ -13,10 +13,10 @@ use Rattle.settings.specs.declared.Mode.{Mode}
 use Rattle.settings.specs.declared.Mode.the-variants.{Alone, Lead, Standby}
 use Rattle.rules.specs.Addresses.{elem, strike, twice, nearest}
 use Rattle.rules.specs.Allowed.{Sound}
-use Rattle.rules.specs.Cache.{Cache, Work, withRows, withMaximum, withCounters}
+use Rattle.rules.specs.Cache.{Cache, Work, withRows, withMaximum, withCounters, withExceeded}
 use Rattle.rules.specs.Entries.{if_then_else_, isListed, isClean, cleaned}
 use Rattle.rules.specs.Resizing.{evictAged, expel, agedAt, older}
-use Rattle.rules.specs.Room.{evict, write, writeInPlace, lacking, shareMissing, lookAtTail, tailTurn, cleanTurn, orStay, turns, evictBy, writeDirty, roomIn, makeRoom}
+use Rattle.rules.specs.Room.{evict, write, writeInPlace, lacking, shareMissing, lookAtTail, tailTurn, cleanTurn, orStay, turns, evictBy, writeDirty, roomIn, noticed, makeRoom}
 use Rattle.rules.specs.Rows.{get, passes, amend, amendAll, remove, cleanAt, dirtyAt}
 use Rattle.rules.proofs.Found.{get-remove, get-amend, get-amendAll, distinct-remove, distinct-amend, distinct-amendAll, pass-map, present}
 use Rattle.rules.proofs.Lists.{elem-append, elem-first, elem-rest, elem-strike, twice-strike, twice-last}
@@ -32,6 +32,10 @@ pub record SameList (l m : List ℕ) : Type 0 where
 abbrev pub tuned : ℕ → ℕ → ℕ → Work → Work
 tuned n h k w = record { cache = withCounters h k (withMaximum n (w .cache)); orders = w .orders }
 
+-- another word on whether the maximum was exceeded
+abbrev pub noted : Bool → Work → Work
+noted b w = record { cache = withExceeded b (w .cache); orders = w .orders }
+
 -- each idle count one higher
 abbrev pub idled : Work → Work
 idled w = record { cache = withRows (amendAll older (w .cache .rows)) (w .cache .recency) (w .cache); orders = w .orders }
@@ -45,6 +49,7 @@ pub data Moves (may sets : Bool) : Work → Work → Type 0 where
       → SameList l (w .cache .recency) → Moves may sets (write a l w) v → Moves may sets w v
   tunes : {w v : Work} (n h k : ℕ) → sets ≡ true → Moves may sets (tuned n h k w) v → Moves may sets w v
   ages : {w v : Work} → sets ≡ true → Moves may sets (idled w) v → Moves may sets w v
+  notes : {w v : Work} (b : Bool) → Moves may sets (noted b w) v → Moves may sets w v
 
 pub moves-trans : {may sets : Bool} {u v w : Work} → Moves may sets u v → Moves may sets v w → Moves may sets u w
 moves-trans done n = n
@@ -52,6 +57,7 @@ moves-trans (evicts a e g l d m) n = evicts a e g l d (moves-trans m n)
 moves-trans (writes a e r k g l d s m) n = writes a e r k g l d s (moves-trans m n)
 moves-trans (tunes i h k y m) n = tunes i h k y (moves-trans m n)
 moves-trans (ages y m) n = ages y (moves-trans m n)
+moves-trans (notes b m) n = notes b (moves-trans m n)
 
 -- ---- a sound cache stays sound
 
@@ -98,6 +104,7 @@ moves-sound (evicts {w} a e g l d m) k = moves-sound m (sound-remove a (w .cache
 moves-sound (writes {w} a e r p g l d s m) k = moves-sound m (sound-write a r (w .cache) s k)
 moves-sound (tunes {w} n h i y m) k = moves-sound m (sound-same (w .cache) (tuned n h i w .cache) refl refl k)
 moves-sound (ages {w} y m) k = moves-sound m (sound-ages (w .cache) k)
+moves-sound (notes {w} b m) k = moves-sound m (sound-same (w .cache) (noted b w .cache) refl refl k)
 
 -- ---- each pass is moves
 
@@ -249,6 +256,7 @@ moves-stay (evicts a e g l d m) = moves-stay m
 moves-stay (writes a e r k g l d s m) = moves-stay m
 moves-stay (tunes n h k y m) = moves-stay m
 moves-stay (ages y m) = moves-stay m
+moves-stay (notes b m) = moves-stay m
 
 pub moves-mode : {may sets : Bool} {w v : Work} → Moves may sets w v → v .cache .mode ≡ w .cache .mode
 moves-mode m = moves-stay m .0
@@ -257,15 +265,16 @@ moves-mode m = moves-stay m .0
 pub room-moves : {sets : Bool} (x : ℕ) (row : Bool) (w : Work) → Sound (w .cache) → Moves (isAlone (w .cache .mode)) sets w (makeRoom x row w)
 unfolding makeRoom roomIn
 room-moves {sets} x row w k =
-    choose (λ (v : Work). Moves (isAlone (w .cache .mode)) sets w v) (w .cache .settings .evictions) (λ h. go (w .cache .mode)) (λ h. done)
+    choose (λ (v : Work). Moves (isAlone (w .cache .mode)) sets w v) (w .cache .settings .evictions)
+    (λ h. notes (noticed x w .cache .exceeded) (go (w .cache .mode) (noticed x w) (sound-same (w .cache) (noticed x w .cache) refl refl k))) (λ h. done)
   where
-    go : (m : Mode) → Moves (isAlone m) sets w (roomIn m x row w)
-    go Alone =
-        let t = turns-move tail-turns (2 * length (w .cache .rows)) x row w k in
-        let v = evictBy tailTurn x row w in
+    go : (m : Mode) (u : Work) → Sound (u .cache) → Moves (isAlone m) sets u (roomIn m x row u)
+    go Alone u k =
+        let t = turns-move tail-turns (2 * length (u .cache .rows)) x row u k in
+        let v = evictBy tailTurn x row u in
         moves-trans t (dirty-moves x (v .cache .recency) v (sound-listed v (moves-sound t k)))
-    go Lead = turns-move clean-turns (2 * length (w .cache .rows)) x row w k
-    go Standby = turns-move clean-turns (2 * length (w .cache .rows)) x row w k
+    go Lead u k = turns-move clean-turns (2 * length (u .cache .rows)) x row u k
+    go Standby u k = turns-move clean-turns (2 * length (u .cache .rows)) x row u k
 
 pub room-after : {sets : Bool} {w v : Work} (x : ℕ) (row : Bool) → Sound (w .cache) → Moves (isAlone (w .cache .mode)) sets w v
     → Moves (isAlone (w .cache .mode)) sets w (makeRoom x row v)
@@ -302,6 +311,7 @@ moves-listed l (evicts {w} a e g x d m) k = moves-listed l m (listed-evict a l w
 moves-listed l (writes {w} a e r y g x d s m) k = moves-listed l m (listed-write a l r w k)
 moves-listed l (tunes n h i y m) k = moves-listed l m k
 moves-listed l (ages {w} y m) k = moves-listed l m (listed-ages l w k)
+moves-listed l (notes b m) k = moves-listed l m k
 
 pub aged-moves : {sets : Bool} (m : Mode) (n : ℕ) (l : List ℕ) (w : Work) → w .cache .mode ≡ m → Listed l w → Moves (isAlone m) sets w (evictAged n l w)
 unfolding evictAged

@@ -1,6 +1,6 @@
 -- The state of a cache, and a cache changed in one respect.
 use Prim.Native.Nat.{ℕ}
-use mathlib.Core.Bool.{Bool}
+use mathlib.Core.Bool.{Bool, false}
 use mathlib.Core.List.{List, [], _∷_, _++_}
 use lib.Dec.{ltb}
 use lib.ListN.{replicate}
@@ -32,6 +32,8 @@ pub record Cache : Type 0 where
   pub count : ℕ
   -- the number of the next list, to be sent or taken; 0 when none is left
   pub next : ℕ
+  -- since the counters last restarted, making room found held plus incoming above the maximum
+  pub exceeded : Bool
 
 -- A fresh cache is empty.
 abbrev pub fresh : ℕ → Mode → ℕ → Settings → Cache
@@ -46,6 +48,7 @@ fresh n m t s = record {
   hits = 0;
   count = 0;
   next = 1;
+  exceeded = false;
 }
 
 -- The recency list as the rules read it, tail first.
@@ -66,6 +69,7 @@ withRows rows recency c = record {
   hits = c .hits;
   count = c .count;
   next = c .next;
+  exceeded = c .exceeded;
 }
 
 abbrev pub withSettings : Settings → Cache → Cache
@@ -80,6 +84,7 @@ withSettings s c = record {
   hits = c .hits;
   count = c .count;
   next = c .next;
+  exceeded = c .exceeded;
 }
 
 abbrev pub withMaximum : ℕ → Cache → Cache
@@ -94,6 +99,7 @@ withMaximum n c = record {
   hits = c .hits;
   count = c .count;
   next = c .next;
+  exceeded = c .exceeded;
 }
 
 abbrev pub withCounters : ℕ → ℕ → Cache → Cache
@@ -108,6 +114,7 @@ withCounters n h c = record {
   hits = h;
   count = c .count;
   next = c .next;
+  exceeded = c .exceeded;
 }
 
 abbrev pub withCount : ℕ → Cache → Cache
@@ -122,6 +129,7 @@ withCount n c = record {
   hits = c .hits;
   count = n;
   next = c .next;
+  exceeded = c .exceeded;
 }
 
 abbrev pub withNext : ℕ → Cache → Cache
@@ -136,6 +144,22 @@ withNext n c = record {
   hits = c .hits;
   count = c .count;
   next = n;
+  exceeded = c .exceeded;
+}
+
+abbrev pub withExceeded : Bool → Cache → Cache
+withExceeded b c = record {
+  rows = c .rows;
+  recency = c .recency;
+  mode = c .mode;
+  threshold = c .threshold;
+  settings = c .settings;
+  maximum = c .maximum;
+  accesses = c .accesses;
+  hits = c .hits;
+  count = c .count;
+  next = c .next;
+  exceeded = b;
 }
 
 -- The entry at an address changed where it stands.
@@ -149,9 +173,9 @@ touch a f c =
     (strike a (c .recency) ++ (if passes (λ e. isListed (f e)) (get (c .rows) a) then a ∷ [] else []))
     c
 
--- Counters restart.
+-- Counters restart, and what making room found since is cleared.
 abbrev pub restart : Cache → Cache
-restart c = withCounters 0 0 c
+restart c = withExceeded false (withCounters 0 0 c)
 
 -- ---- figures
 

@@ -22,7 +22,7 @@ use Rattle.rules.specs.declared.request.Access.the-variants.{Reading, Wr
 use Rattle.settings.specs.declared.Mode.{Mode}
 use Rattle.settings.specs.declared.Mode.the-variants.{Alone, Lead, Standby}
 use Rattle.rules.specs.declared.request.Request.{Request}
-use Rattle.rules.specs.declared.request.Request.the-variants.{Insert, Protect, Release, ReleaseChanged, Pin, Unpin, Discard, Flush, Take, Configure}
+use Rattle.rules.specs.declared.request.Request.the-variants.{Insert, Protect, Release, ReleaseChanged, Pin, Unpin, Resize, Discard, Flush, Sync, Take, Configure}
 use Rattle.rules.specs.Answers.{answerNumber}
 use Rattle.rules.specs.Allowed.{Allowed}
 use Rattle.rules.specs.Cache.{Cache, fresh, withCounters}
@@ -174,6 +174,10 @@ atEpochEnd hits s size maximum = record {
 abbrev pub rising : Float → Cap → Settings
 rising multiplier most = smallOf (decimal 0 1) (increase.Threshold (decimal 9 10) multiplier) most flash.Off decrease.Off cap.None
 
+-- A rise at lower rate 0.8, and a threshold decrease by half above rate 0.9.
+abbrev pub halving : Settings
+halving = smallWith (increase.Threshold (decimal 8 10) (decimal 2 1)) flash.Off (decrease.Threshold (decimal 9 10) (decimal 5 10))
+
 -- Age-out with reserve 0.25, within a cap.
 abbrev pub ageing : Cap → Settings
 ageing least = smallOf (decimal 0 1) increase.Off cap.None flash.Off (decrease.AgeOut 10 (decimal 25 100)) least
@@ -281,6 +285,22 @@ cases =
     ∷ atEpochEnd 88 (rising (decimal 2 1) cap.None) 4096 8192
     -- P6: 89 and not full
     ∷ atEpochEnd 88 (rising (decimal 2 1) cap.None) 4095 4096
+    -- P6: 89 and full, since making room found held plus incoming above the maximum
+    ∷ record {
+      setup = lastAccess 88 (alone (rising (decimal 2 1) cap.None));
+      calls = ask (Insert 100 3000) ∷ ask (Insert 200 1000) ∷ ask (Insert 300 500) ∷ ask (Protect Reading 300 500) ∷ [];
+      gives = record {
+        answers = 0 ∷ 0 ∷ 0 ∷ 0 ∷ [];
+        orders = [] ∷ [] ∷ threeOrders ∷ [] ∷ [];
+        recency = 200 ∷ [];
+        held = 1500;
+        dirty = 500;
+        maximum = 8192;
+        count = 4500;
+        due = false;
+        next = 1;
+      };
+    }
     -- P7: held 3,000
     ∷ atEpochEnd 99 (ageing cap.None) 3000 4000
     -- P7: held 3,072
@@ -585,6 +605,119 @@ further =
     }
     ∷ []
 
+-- ---- full
+
+abbrev pub full : List Case
+full =
+    -- a world at 97 percent, whose every access misses
+    record {
+      setup = lastAccess 0 (alone (rising (decimal 2 1) cap.None));
+      calls = ask (Insert 100 1324) ∷ ask (Insert 200 1324) ∷ ask (Insert 300 1325) ∷ ask (Protect Reading 400 1325) ∷ [];
+      gives = record {
+        answers = 0 ∷ 0 ∷ 0 ∷ 0 ∷ [];
+        orders =
+            [] ∷ [] ∷ []
+            ∷ (order Kind.Write 100 1324 ∷ order Kind.Write 200 1324 ∷ order Kind.Write 300 1325 ∷ order Kind.Evict 100 1324 ∷ order Kind.Load 400 1325 ∷ [])
+            ∷ [];
+        recency = 300 ∷ 200 ∷ [];
+        held = 3974;
+        dirty = 0;
+        maximum = 8192;
+        count = 3973;
+        due = false;
+        next = 1;
+      };
+    }
+    -- found with nothing to evict, and the entry gone since
+    ∷ record {
+      setup = lastAccess 88 (alone (rising (decimal 2 1) cap.None));
+      calls = ask (Insert 100 5000) ∷ ask (Discard 100) ∷ ask (Protect Reading 200 100) ∷ [];
+      gives = record {
+        answers = 0 ∷ 0 ∷ 0 ∷ [];
+        orders = [] ∷ [] ∷ (order Kind.Load 200 100 ∷ []) ∷ [];
+        recency = [];
+        held = 100;
+        dirty = 0;
+        maximum = 8192;
+        count = 5000;
+        due = false;
+        next = 1;
+      };
+    }
+    -- rows press, and bytes do not
+    ∷ record {
+      setup = lastAccess 88 (opened 1 Alone defaultThreshold (rising (decimal 2 1) cap.None));
+      calls = ask (Insert 100 100) ∷ ask (Protect Reading 200 100) ∷ [];
+      gives = record {
+        answers = 0 ∷ 0 ∷ [];
+        orders = [] ∷ (order Kind.Write 100 100 ∷ order Kind.Evict 100 100 ∷ order Kind.Load 200 100 ∷ []) ∷ [];
+        recency = [];
+        held = 100;
+        dirty = 0;
+        maximum = 4096;
+        count = 100;
+        due = false;
+        next = 1;
+      };
+    }
+    -- cleared at the end of an epoch: a poor epoch after the rise brings no other
+    ∷ record {
+      setup = counting 99 88 (later (ask (Protect Reading 100 5000) ∷ []) (lastAccess 88 (alone (rising (decimal 2 1) cap.None))));
+      calls = ask (Protect Reading 100 5000) ∷ [];
+      gives = record { answers = 0 ∷ []; orders = [] ∷ []; recency = []; held = 5000; dirty = 0; maximum = 8192; count = 0; due = false; next = 1 };
+    }
+    -- cleared by a flash that raised the maximum to 9,000, where held plus incoming is 9,000 and not above
+    ∷ record {
+      setup =
+          counting 99 88
+          (later
+          (ask (Insert 100 4000) ∷ ask (Insert 200 4000) ∷ ask (Insert 300 5000) ∷ ask (Discard 200) ∷ [])
+          (alone (smallWith (increase.Threshold (decimal 9 10) (decimal 2 1)) (flash.On (decimal 1 1) (decimal 1 1)) decrease.Off)));
+      calls = ask (Protect Reading 300 5000) ∷ [];
+      gives = record { answers = 0 ∷ []; orders = [] ∷ []; recency = []; held = 5000; dirty = 5000; maximum = 9000; count = 13000; due = false; next = 1 };
+    }
+    -- cleared by configuring
+    ∷ record {
+      setup =
+          counting 99 88
+          (later
+          (ask (Insert 100 5000) ∷ ask (Discard 100) ∷ ask (Configure (rising (decimal 2 1) cap.None)) ∷ [])
+          (alone (rising (decimal 2 1) cap.None)));
+      calls = ask (Protect Reading 200 100) ∷ [];
+      gives = record {
+        answers = 0 ∷ [];
+        orders = (order Kind.Load 200 100 ∷ []) ∷ [];
+        recency = [];
+        held = 100;
+        dirty = 0;
+        maximum = 4096;
+        count = 5000;
+        due = false;
+        next = 1;
+      };
+    }
+    -- found again by the room at the end of an epoch, which lowered the maximum to 2,048
+    ∷ record {
+      setup =
+          counting 99 50
+          (later
+          (ask (Insert 100 3000) ∷ ask (Protect Writing 100 3000) ∷ ask (Resize 100 10) ∷ [])
+          (lastAccess 99 (alone halving)));
+      calls = ask (Protect Reading 200 100) ∷ [];
+      gives = record {
+        answers = 0 ∷ [];
+        orders = (order Kind.Load 200 100 ∷ []) ∷ [];
+        recency = [];
+        held = 110;
+        dirty = 10;
+        maximum = 4096;
+        count = 3000;
+        due = false;
+        next = 1;
+      };
+    }
+    ∷ []
+
 -- ---- the clean share
 
 -- Settings with evictions off.
@@ -621,4 +754,40 @@ missing =
     -- a standby, and with evictions off
     ∷ (later (ask (Insert 100 3000) ∷ []) (opened 4 Standby defaultThreshold sharing), 952)
     ∷ (later (ask (Insert 100 3000) ∷ ask (Insert 200 2000) ∷ []) (alone (withoutEvictions sharing)), 2048)
+    ∷ []
+
+-- ---- what is stored of full
+
+-- After these calls making room has, or has not, found held plus incoming above the maximum since the counters last restarted.
+abbrev pub exceeding : List (Setup × Bool)
+exceeding =
+    (alone small, false)
+    -- held plus incoming reach the maximum, and exceed it
+    ∷ (later (ask (Insert 100 3000) ∷ ask (Insert 200 1096) ∷ []) (alone small), false)
+    ∷ (later (ask (Insert 100 3000) ∷ ask (Insert 200 1097) ∷ []) (alone small), true)
+    -- nothing to evict: an empty list, and in lead and standby only dirty entries
+    ∷ (later (ask (Insert 100 5000) ∷ []) (alone small), true)
+    ∷ (later (ask (Insert 100 3000) ∷ ask (Insert 200 1097) ∷ []) (opened 4 Lead defaultThreshold small), true)
+    ∷ (later (ask (Insert 100 3000) ∷ ask (Insert 200 1097) ∷ []) (opened 4 Standby defaultThreshold small), true)
+    -- what was found stays when the entry has gone and later room suffices
+    ∷ (later (ask (Insert 100 5000) ∷ ask (Discard 100) ∷ ask (Insert 200 100) ∷ []) (alone small), true)
+    -- with evictions off no room is made
+    ∷ (later (ask (Insert 100 5000) ∷ []) (alone (withoutEvictions small)), false)
+    -- a row is wanted, and bytes suffice
+    ∷ (later (ask (Insert 100 100) ∷ ask (Insert 200 100) ∷ []) (opened 1 Alone defaultThreshold small), false)
+    -- a refused insert; a sync; a resize, which makes no room, and the release after it, which does
+    ∷ (later (ask (Insert 100 3000) ∷ ask (Insert 200 1097) ∷ []) (opened 1 Lead defaultThreshold small), false)
+    ∷ (later (ask (Protect Writing 100 3000) ∷ ask (Resize 100 5000) ∷ ask Sync ∷ []) (opened 4 Lead defaultThreshold small), false)
+    ∷ (later (ask (Protect Writing 100 3000) ∷ ask (Resize 100 5000) ∷ ask (Release 100) ∷ []) (alone small), true)
+    -- P8's flash to 5,025, where 4,000 held and 1,025 incoming are not above
+    ∷ (later (ask (Insert 100 4000) ∷ ask (Insert 200 1025) ∷ []) (alone (flashing (decimal 1 1))), false)
+    -- found at 4,500, and cleared by the flash of a resize
+    ∷ (later (ask (Insert 100 4000) ∷ ask (Insert 200 500) ∷ []) (alone (flashing (decimal 1 1))), true)
+    ∷ (later (ask (Insert 100 4000) ∷ ask (Insert 200 500) ∷ ask (Protect Writing 200 500) ∷ ask (Resize 200 5000) ∷ []) (alone (flashing (decimal 1 1))), false)
+    -- an epoch's end clears it, and the room after it finds 3,000 above 2,048
+    ∷ (later (ask (Insert 100 3000) ∷ ask (Protect Writing 100 3000) ∷ []) (lastAccess 99 (alone halving)), true)
+    ∷ (later (ask (Insert 100 5000) ∷ ask (Discard 100) ∷ ask (Protect Reading 200 100) ∷ []) (lastAccess 99 (alone halving)), false)
+    -- configuring likewise
+    ∷ (later (ask (Insert 100 5000) ∷ ask (Discard 100) ∷ ask (Configure small) ∷ []) (alone small), false)
+    ∷ (later (ask (Insert 100 5000) ∷ ask (Configure small) ∷ []) (alone small), true)
     ∷ []

@@ -18,6 +18,7 @@ pub mod Ledger
 pub mod Sides
 pub mod Hosts
 pub mod History
+pub mod Full
 pub mod Loops
 pub mod Given
 pub mod Kept

@@ -13,6 +13,11 @@ pub data While (test : Work → Bool) (turn : Work → Option Work) : Work → W
   none-left : {w : Work} → test w ≡ true → turn w ≡ none → While test turn w w
   again : {w u v : Work} → test w ≡ true → turn w ≡ some u → While test turn u v → While test turn w v
 
+-- `Reached test turn w v`: such a loop from w comes by v, at its start or after some turns.
+pub data Reached (test : Work → Bool) (turn : Work → Option Work) : Work → Work → Type 0 where
+  here : {w : Work} → Reached test turn w w
+  later : {w u v : Work} → test w ≡ true → turn w ≡ some u → Reached test turn u v → Reached test turn w v
+
 -- Step 2, and sync: the dirty entry nearest the tail is written and keeps its place.
 abbrev pub dirtyTurn : Work → Option Work
 dirtyTurn w = Option·map (λ a. writeInPlace a w) (nearest (dirtyAt (w .cache .rows)) (recencyList (w .cache)))

@@ -57,9 +57,9 @@ isAbove rate upper = lt upper rate
 
 -- ---- increase
 
--- The cache is full: held bytes at least the maximum.
+-- The cache is full: since the counters last restarted making room found held plus incoming above the maximum, or held bytes reach it now.
 abbrev pub isFull : Cache → Bool
-isFull c = leb (c .maximum) (held c)
+isFull c = c .exceeded || leb (c .maximum) (held c)
 
 -- Not above the maximum plus the cap.
 abbrev pub atMost : Cap → ℕ → ℕ → ℕ

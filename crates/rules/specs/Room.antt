@@ -9,7 +9,7 @@ use Rattle.rules.specs.declared.order.Kind.{Kind}
 use Rattle.settings.specs.declared.Mode.{Mode}
 use Rattle.settings.specs.declared.Mode.the-variants.{Alone, Lead, Standby}
 use Rattle.rules.specs.Addresses.{strike, nearest}
-use Rattle.rules.specs.Cache.{Cache, Work, recencyList, withRows, held, minimumClean, give}
+use Rattle.rules.specs.Cache.{Cache, Work, recencyList, withRows, withExceeded, held, minimumClean, give}
 use Rattle.rules.specs.Entries.{if_then_else_, cleaned}
 use Rattle.rules.specs.Rows.{amend, remove, hasFree, cleanAt, dirtyAt, sizeAt}
 use Rattle.rules.specs.declared.entry.Row.{Row}
@@ -101,6 +101,10 @@ roomIn Alone x row w =
 roomIn Lead x row w = evictBy cleanTurn x row w
 roomIn Standby x row w = evictBy cleanTurn x row w
 
+-- It is noted if held plus incoming exceeds the maximum, whether or not anything can be evicted.
+abbrev pub noticed : ℕ → Work → Work
+noticed x w = record { cache = withExceeded (w .cache .exceeded || overfull x (w .cache)) (w .cache); orders = w .orders }
+
 -- With evictions off: no effect.
 unfoldable pub makeRoom : ℕ → Bool → Work → Work
-makeRoom x row w = if w .cache .settings .evictions then roomIn (w .cache .mode) x row w else w
+makeRoom x row w = if w .cache .settings .evictions then roomIn (w .cache .mode) x row (noticed x w) else w
