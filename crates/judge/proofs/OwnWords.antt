@@ -25,7 +25,7 @@ use Rattle.layout.proofs.Parts.{row-word}
 use Rattle.layout.proofs.Seams.{length-head, length-run, drop-recency, drop-addresses, length-laid}
 use Rattle.judge.specs.declared.row.RowWords.{RowWords}
 use Rattle.judge.specs.Fits.{RowFits, PartsFit, TableFits, numbers, part, wordsAt, usedAt}
-use Rattle.judge.proofs.RowWords.{testRow, wordsOf, own-fits, own-used, own-address, own-not-ones}
+use Rattle.judge.proofs.RowWords.{flag-low, testRow, wordsOf, own-fits, own-used, own-address, own-not-ones}
 use Rattle.judge.proofs.RunWords.{own-numbers, own-run}
 use Rattle.judge.proofs.Numbered.{Numbered, numbered-of, number-below, rising-once}
 
@@ -144,7 +144,7 @@ module _ (c : Cache) (ok : Allowed c) (rest : List ℕ) where
     long = long;
     settings = record {
       picture = settings.complete (c .settings) _ floats (ok .settings);
-      figures = record { least = ok .least; most = ok .most; accesses = ok .accesses; hits = ok .hits; count = ok .count };
+      figures = record { least = ok .least; most = ok .most; accesses = ok .accesses; hits = ok .hits; exceeded = flag-low (c .exceeded); count = ok .count };
     };
     parts = rw (recency-part, order-part) own-parts;
   }

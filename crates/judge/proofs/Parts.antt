@@ -24,9 +24,10 @@ none-seen (suc k) zero = refl
 none-seen (suc k) (suc x) = none-seen k x
 
 -- the settings' words, in a table from their place on
-pub from-settings : {r : Bool} {x n h k : ℕ} (ws : List ℕ) → Says r (SettingsFit (take (length ws - settingsAt) (drop settingsAt ws)) x n h k) → Says r (SettingsFit (drop settingsAt ws) x n h k)
-from-settings {r} {x} {n} {h} {k} ws s =
-    subst (λ (l : List ℕ). Says r (SettingsFit l x n h k)) (take-all (length ws - settingsAt) (drop settingsAt ws) (omega (arith, length-drop settingsAt ws))) s
+pub from-settings : {r : Bool} {x n h k f : ℕ} (ws : List ℕ) → Says r (SettingsFit (take (length ws - settingsAt) (drop settingsAt ws)) x n h k f)
+    → Says r (SettingsFit (drop settingsAt ws) x n h k f)
+from-settings {r} {x} {n} {h} {k} {f} ws s =
+    subst (λ (l : List ℕ). Says r (SettingsFit l x n h k f)) (take-all (length ws - settingsAt) (drop settingsAt ws) (omega (arith, length-drop settingsAt ws))) s
 
 -- the first k words as a list of their own
 taken-low : {n : ℕ} (k : ℕ) (ws : List ℕ) → k ≤ length ws → Below ws k n → Below (take k ws) (length (take k ws)) n

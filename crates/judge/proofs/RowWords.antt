@@ -50,7 +50,7 @@ held-word h =
     (λ e. sym (ne-eqb h 0 (λ (q : h ≡ 0). omega arith)))
     (λ n m. sym (ne-eqb h 0 n))
 
-flag-forth : (d : ℕ) → d ≤ 1 → flagWord (flagOf d) ≡ d
+pub flag-forth : (d : ℕ) → d ≤ 1 → flagWord (flagOf d) ≡ d
 flag-forth zero h = refl
 flag-forth (suc zero) h = refl
 flag-forth (suc (suc d)) h = absurd (omega arith)

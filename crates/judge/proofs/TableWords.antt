@@ -11,18 +11,18 @@ use lib.ListN.{length, getD, take, drop, length-drop, take-append-drop, List·ge
 use lib.Seq.{drop-drop, length-take-le}
 use Rattle.settings.specs.Validation.{firstBad}
 use Rattle.settings_words.specs.Picture.{settingsOf, picture}
-use Rattle.settings_words.specs.Words.{settingsWords}
+use Rattle.settings_words.specs.Words.{flagWord, flagOf, settingsWords}
 use Rattle.settings_words.proofs.PictureLaws as settings
 use Rattle.rules.specs.declared.entry.Row.{Row}
 use Rattle.rules.specs.declared.entry.Row.the-variants.{Free}
 use Rattle.rules.specs.Addresses.{elem}
 use Rattle.rules.specs.Allowed.{Allowed}
 use Rattle.rules.specs.Entries.{isListed}
-use Rattle.layout.specs.Layout.{version, settingsAt, headerWords, width, rowAt, recencyAt, addressesAt, layoutWords, modeWord, modeOf}
+use Rattle.layout.specs.Layout.{version, exceededAt, settingsAt, headerWords, width, rowAt, recencyAt, addressesAt, layoutWords, modeWord, modeOf}
 use Rattle.layout.specs.Picture.{addressAt, rowsWords, run, headWords, encode, addressOf, entryOf, rowOf, rowsOf, runOf, cacheWith, cacheIn, restIn}
 use Rattle.layout.proofs.ReadBack.{RowAllowed}
 use Rattle.judge.specs.Fits.{RunFits, PartsFit, TableFits, numbers, wordsAt}
-use Rattle.judge.proofs.RowWords.{testRow, firsts, take-firsts, row-used, row-listed, row-allowed, row-address, row-forth, length-rowsOf, getD-rowsOf, rows-forth}
+use Rattle.judge.proofs.RowWords.{testRow, firsts, take-firsts, flag-forth, row-used, row-listed, row-allowed, row-address, row-forth, length-rowsOf, getD-rowsOf, rows-forth}
 use Rattle.judge.proofs.RunWords.{numbers-front}
 use Rattle.judge.proofs.Numbered.{Numbered, distinct-of, listed-of, once-of, recency-back, order-back, entries-of, none-past}
 
@@ -133,11 +133,12 @@ module _ (ws : List ℕ) (t : TableFits ws) where
       let w : take settingsAt ws ≡ firsts settingsAt 0 0 ws = take-firsts settingsAt 0 0 ws (let h = t .whole in omega arith) in
       let l : count ≡ length (rowsOf count 0 ws) = sym (length-rowsOf count 0 ws) in
       let m : getD ws 2 0 ≡ modeWord (modeOf (getD ws 2 0)) = sym (mode-forth (getD ws 2 0) (t .opening .mode)) in
+      let f : getD ws exceededAt 0 ≡ flagWord (flagOf (getD ws exceededAt 0)) = sym (flag-forth (getD ws exceededAt 0) (t .settings .figures .exceeded)) in
       let s : drop settingsAt ws ≡ settingsWords (settingsOf (drop settingsAt ws)) ++ drop headerWords ws =
       passed .1 ∙ ap (λ (x : List ℕ). settingsWords (settingsOf (drop settingsAt ws)) ++ x) (drop-drop 21 settingsAt ws) in
       sym (take-append-drop settingsAt ws)
       ∙ ap (λ (x : List ℕ). x ++ drop settingsAt ws) w
-      ∙ (λ j. t .opening .version j ∷ l j ∷ m j ∷ getD ws 3 0 ∷ getD ws 4 0 ∷ getD ws 5 0 ∷ getD ws 6 0 ∷ getD ws 7 0 ∷ getD ws 8 0 ∷ s j)
+      ∙ (λ j. t .opening .version j ∷ l j ∷ m j ∷ getD ws 3 0 ∷ getD ws 4 0 ∷ getD ws 5 0 ∷ getD ws 6 0 ∷ getD ws 7 0 ∷ getD ws 8 0 ∷ f j ∷ s j)
 
   -- the words are those of the cache read from them
   pub words-are : ws ≡ encode (cacheIn ws) (restIn ws)

@@ -19,16 +19,16 @@ use Rattle.judge.specs.Verdict.{_and_, everyEntry, everyAddress, distinc
 -- Three rows: an entry that is listed, a free row, and a pinned entry that is held for writing; and a word past the layout's end.
 abbrev table : List ℕ
 table =
-    version ∷ 3 ∷ 1 ∷ 1_000 ∷ 4_096 ∷ 99 ∷ 99 ∷ countStop ∷ 1
-    -- 9: settings, with no rule on
+    version ∷ 3 ∷ 1 ∷ 1_000 ∷ 4_096 ∷ 99 ∷ 99 ∷ countStop ∷ 1 ∷ 1
+    -- 10: settings, with no rule on
     ∷ 1 ∷ 0 ∷ 0 ∷ 0 ∷ 16_384 ∷ 1_024 ∷ 100 ∷ 0 ∷ 0 ∷ 0 ∷ 0 ∷ 0 ∷ 0 ∷ 0 ∷ 0 ∷ 0 ∷ 0 ∷ 0 ∷ 0 ∷ 0 ∷ 0
-    -- 30, 36, 42: rows
+    -- 31, 37, 43: rows
     ∷ 300 ∷ 4_096 ∷ 1 ∷ 3 ∷ 0 ∷ 0
     ∷ 0 ∷ 0 ∷ 0 ∷ 0 ∷ 0 ∷ 0
     ∷ 200 ∷ 100 ∷ 0 ∷ 10 ∷ 1 ∷ 65_536
-    -- 48: the recency run
+    -- 49: the recency run
     ∷ 0 ∷ ones ∷ ones
-    -- 51: the address run
+    -- 52: the address run
     ∷ 2 ∷ 0 ∷ ones
     ∷ 77 ∷ []
 
@@ -44,7 +44,7 @@ pub cases : List Case
 cases =
     -- as it is, and with another word past the layout's end
     put 0 version true
-    ∷ put 54 5 true
+    ∷ put 55 5 true
     -- the header
     ∷ put 0 0 false
     ∷ put 1 0 false
@@ -60,36 +60,38 @@ cases =
     -- any number may be next
     ∷ put 8 0 true
     ∷ put 8 ones true
+    ∷ put 9 0 true
     ∷ put 9 2 false
-    ∷ put 15 99 false
+    ∷ put 10 2 false
+    ∷ put 16 99 false
     -- row 0
-    ∷ put 30 ones false
-    ∷ put 30 200 false
-    ∷ put 30 201 true
-    ∷ put 31 0 false
-    ∷ put 31 134_217_729 false
-    ∷ put 32 2 false
-    ∷ put 33 10 true
-    ∷ put 33 11 false
-    ∷ put 34 1 false
+    ∷ put 31 ones false
+    ∷ put 31 200 false
+    ∷ put 31 201 true
+    ∷ put 32 0 false
+    ∷ put 32 134_217_729 false
+    ∷ put 33 2 false
+    ∷ put 34 10 true
+    ∷ put 34 11 false
     ∷ put 35 1 false
-    -- row 1, which is free
     ∷ put 36 1 false
+    -- row 1, which is free
+    ∷ put 37 1 false
     -- row 2
-    ∷ put 47 1 true
-    ∷ put 47 0 true
-    ∷ put 47 65_537 false
+    ∷ put 48 1 true
+    ∷ put 48 0 true
+    ∷ put 48 65_537 false
     -- the recency run: no row, a free row, a held row, a row twice, a word after the end
-    ∷ put 48 3 false
-    ∷ put 48 1 false
-    ∷ put 48 2 false
-    ∷ put 48 ones false
-    ∷ put 49 0 false
+    ∷ put 49 3 false
+    ∷ put 49 1 false
+    ∷ put 49 2 false
+    ∷ put 49 ones false
     ∷ put 50 0 false
-    -- the address run
     ∷ put 51 0 false
-    ∷ put 52 ones false
-    ∷ put 53 1 false
+    -- the address run
+    ∷ put 52 0 false
+    ∷ put 53 ones false
+    ∷ put 54 1 false
     ∷ []
 
 pub cases-hold : every holds cases ≡ true

@@ -9,7 +9,7 @@ use Rattle.settings_words.specs.Picture.{picture}
 use Rattle.settings_words.specs.Words.{flagWord, flagOf}
 use Rattle.rules.specs.Addresses.{elem, twice}
 use Rattle.rules.specs.Limits.{mostRows, mostSize, mostIdle, mostThreshold, countStop}
-use Rattle.layout.specs.Layout.{ones, version, versionAt, rowCountAt, modeAt, thresholdAt, maximumAt, accessesAt, hitsAt, countAt, settingsAt, headerWords, rowAt, recencyAt, addressesAt, layoutWords}
+use Rattle.layout.specs.Layout.{ones, version, versionAt, rowCountAt, modeAt, thresholdAt, maximumAt, accessesAt, hitsAt, countAt, exceededAt, settingsAt, headerWords, rowAt, recencyAt, addressesAt, layoutWords}
 use Rattle.layout.specs.Picture.{run, runOf}
 use Rattle.judge.specs.declared.row.RowWords.{RowWords}
 
@@ -29,18 +29,19 @@ pub record OpeningFits (v n m t : ℕ) : Type 0 where
   pub someBytes : 1 ≤ t
   pub threshold : t ≤ mostThreshold
 
--- Maximum, accesses, hits and byte count, against the settings' largest size, smallest size and epoch length.
-pub record FiguresFit (x n h k l s e : ℕ) : Type 0 where
+-- Maximum, accesses, hits, byte count and whether the maximum was exceeded, against the settings' largest size, smallest size and epoch length.
+pub record FiguresFit (x n h k f l s e : ℕ) : Type 0 where
   pub least : s ≤ x
   pub most : x ≤ l
   pub accesses : n < e
   pub hits : h ≤ n
+  pub exceeded : f ≤ 1
   pub count : k ≤ countStop
 
 -- The settings' words, and the figures against them.
-pub record SettingsFit (ws : List ℕ) (x n h k : ℕ) : Type 0 where
+pub record SettingsFit (ws : List ℕ) (x n h k f : ℕ) : Type 0 where
   pub picture : picture ws ≡ true
-  pub figures : FiguresFit x n h k (getD ws 4 0) (getD ws 5 0) (getD ws 6 0)
+  pub figures : FiguresFit x n h k f (getD ws 4 0) (getD ws 5 0) (getD ws 6 0)
 
 -- ---- a row
 
@@ -166,5 +167,5 @@ pub record TableFits (ws : List ℕ) : Type 0 where
   pub whole : headerWords ≤ length ws
   pub opening : OpeningFits (getD ws versionAt 0) (getD ws rowCountAt 0) (getD ws modeAt 0) (getD ws thresholdAt 0)
   pub long : layoutWords (getD ws rowCountAt 0) ≤ length ws
-  pub settings : SettingsFit (drop settingsAt ws) (getD ws maximumAt 0) (getD ws accessesAt 0) (getD ws hitsAt 0) (getD ws countAt 0)
+  pub settings : SettingsFit (drop settingsAt ws) (getD ws maximumAt 0) (getD ws accessesAt 0) (getD ws hitsAt 0) (getD ws countAt 0) (getD ws exceededAt 0)
   pub parts : PartsOf ws (getD ws rowCountAt 0)

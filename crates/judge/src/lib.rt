@@ -5,7 +5,7 @@
 // of one cache only.
 //
 //     judge               the header: version, row count, mode and threshold; a table as long as its
-//                         rows ask for; settings, maximum, counters and byte count
+//                         rows ask for; settings, maximum, counters, byte count and the flag beside them
 //     parts_allowed       what comes after the header, in one pass for each part:
 //         mark_rows       the recency run: row numbers, whose rows are marked
 //         rows_allowed    the rows: each free or with an entry, and marked if that is to be listed
@@ -35,6 +35,7 @@ use header::opening_allowed;
 use header::settings_allowed;
 use layout::ACCESSES_AT;
 use layout::COUNT_AT;
+use layout::EXCEEDED_AT;
 use layout::HEADER;
 use layout::HITS_AT;
 use layout::MAXIMUM_AT;
@@ -94,6 +95,7 @@ pub fn judge(table: &[u64]) -> bool
         table[ACCESSES_AT],
         table[HITS_AT],
         table[COUNT_AT],
+        table[EXCEEDED_AT],
     ) {
         return false;
     }

@@ -1,6 +1,6 @@
 -- Each step of a change leads from one cache's words to another's.
 use Prim.Native.Nat.{ℕ, _+_, _<_, _≤_}
-use mathlib.Core.Bool.{true, false}
+use mathlib.Core.Bool.{Bool, true, false}
 use mathlib.Core.List.{List, [], _∷_, _++_, map}
 use mathlib.Core.Option.{none, some}
 use mathlib.Core.Path.{_≡_, refl, sym, ap, ap₂, _∙_}
@@ -8,7 +8,7 @@ use native.Mathlib.Omega.{arith}
 use lib.ListN.{length, getD, set, length-map, length-set}
 use borrow.Author.Tests.{eq-eqb}
 use Rattle.settings.specs.declared.Settings.{Settings}
-use Rattle.settings_words.specs.Words.{settingsWords}
+use Rattle.settings_words.specs.Words.{flagWord, settingsWords}
 use Rattle.settings_words.proofs.Flat.{words-length}
 use Rattle.words.specs.Runs.{removed, inserted}
 use Rattle.rules.specs.declared.entry.Entry.{Entry}
@@ -16,7 +16,7 @@ use Rattle.rules.specs.declared.entry.Row.the-variants.{Free, Used}
 use Rattle.rules.specs.declared.entry.Row.{Row}
 use Rattle.rules.specs.Addresses.{elem, strike, twice}
 use Rattle.rules.specs.Allowed.{Distinct}
-use Rattle.rules.specs.Cache.{Cache, withRows, withSettings, withMaximum, withCounters, withCount, withNext, amendAt}
+use Rattle.rules.specs.Cache.{Cache, withRows, withSettings, withMaximum, withCounters, withCount, withNext, withExceeded, amendAt}
 use Rattle.rules.specs.Rows.{get, passes, amend, remove, place, hasFree}
 use Rattle.rules.proofs.Found.{length-amend, length-remove, length-place}
 use Rattle.rules.proofs.Lists.{elem-strike}
@@ -180,6 +180,10 @@ module _ (c : Cache) (rest : List ℕ) where
   pub next-encode : (v : ℕ) → set (encode c rest) 8 v ≡ encode (withNext v c) rest
   unfolding encode
   next-encode v = refl
+
+  pub exceeded-encode : (b : Bool) → set (encode c rest) 9 (flagWord b) ≡ encode (withExceeded b c) rest
+  unfolding encode
+  exceeded-encode b = refl
 
   pub settings-encode : (s : Settings) → putSettings s (encode c rest) ≡ encode (withSettings s c) rest
   unfolding encode putSettings

@@ -106,8 +106,9 @@ run-seam (suc n) (x ∷ l) B h k =
 -- ---- the cache
 
 cache-is : {a b : Cache} → a .rows ≡ b .rows → a .recency ≡ b .recency → a .mode ≡ b .mode → a .threshold ≡ b .threshold → a .settings ≡ b .settings
-    → a .maximum ≡ b .maximum → a .accesses ≡ b .accesses → a .hits ≡ b .hits → a .count ≡ b .count → a .next ≡ b .next → a ≡ b
-cache-is p q r s t u v w x y = λ i. record {
+    → a .maximum ≡ b .maximum → a .accesses ≡ b .accesses → a .hits ≡ b .hits → a .count ≡ b .count → a .next ≡ b .next
+    → a .exceeded ≡ b .exceeded → a ≡ b
+cache-is p q r s t u v w x y z = λ i. record {
   rows = p i;
   recency = q i;
   mode = r i;
@@ -118,6 +119,7 @@ cache-is p q r s t u v w x y = λ i. record {
   hits = w i;
   count = x i;
   next = y i;
+  exceeded = z i;
 }
 
 -- every entry is found at its address, where addresses are distinct
@@ -158,7 +160,7 @@ module _ (c : Cache) (rest : List ℕ) (few : length (c .rows) ≤ mostRows)
       (ap (λ (rows : List Row). map (addressAt rows) (runOf (length (c .rows)) (drop (recencyAt (length (c .rows))) (encode c rest)))) rows-back
       ∙ ap (map (addressAt (c .rows))) (sym recency-back)
       ∙ map-back (c .rows) (c .recency) (recency-here c sound))
-      (mode-back (c .mode)) refl (read-back (c .settings) _ floats) refl refl refl refl refl
+      (mode-back (c .mode)) refl (read-back (c .settings) _ floats) refl refl refl refl refl (flag-back (c .exceeded))
 
   pub rest-back : restIn (encode c rest) ≡ rest
   unfolding restIn encode

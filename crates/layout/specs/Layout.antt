@@ -9,11 +9,12 @@
 --   6          hits
 --   7          byte count
 --   8          the next list's number
---   9 .. 29    settings
---   30         rows, 6 words each: address, size, dirty, idle, pinned, hold
---   30 + 6 n   recency run: row numbers from the tail to the head, then all ones
---   30 + 7 n   address run: row numbers of the entries by rising address, then all ones
---   30 + 8 n   the end of the layout
+--   9          whether making room found the maximum exceeded
+--   10 .. 30   settings
+--   31         rows, 6 words each: address, size, dirty, idle, pinned, hold
+--   31 + 6 n   recency run: row numbers from the tail to the head, then all ones
+--   31 + 7 n   address run: row numbers of the entries by rising address, then all ones
+--   31 + 8 n   the end of the layout
 use Prim.Native.Nat.{ℕ, _+_, _*_}
 use mathlib.Core.List.{List, [], _∷_}
 use lib.Dec.{eqb}
@@ -32,7 +33,7 @@ ones = 0xffff_ffff_ffff_ffff
 
 -- "SPLDVT" and the layout's number.
 abbrev pub version : ℕ
-version = 0x5350_4c44_5654_0002
+version = 0x5350_4c44_5654_0003
 
 -- The header's words.
 abbrev pub versionAt : ℕ
@@ -62,11 +63,14 @@ countAt = 7
 abbrev pub nextAt : ℕ
 nextAt = 8
 
+abbrev pub exceededAt : ℕ
+exceededAt = 9
+
 abbrev pub settingsAt : ℕ
-settingsAt = 9
+settingsAt = 10
 
 abbrev pub headerWords : ℕ
-headerWords = 30
+headerWords = 31
 
 -- Words of a row.
 abbrev pub width : ℕ

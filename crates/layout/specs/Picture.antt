@@ -13,7 +13,7 @@ use Rattle.rules.specs.declared.order.Order.{Order}
 use Rattle.rules.specs.Addresses.{insertRising}
 use Rattle.rules.specs.Cache.{Cache}
 use Rattle.rules.specs.Entries.{if_then_else_}
-use Rattle.layout.specs.Layout.{ones, version, rowCountAt, modeAt, thresholdAt, maximumAt, accessesAt, hitsAt, countAt, nextAt, settingsAt, rowAt, recencyAt, addressesAt, layoutWords, modeWord, modeOf, holdWord, holdOf, kindWord}
+use Rattle.layout.specs.Layout.{ones, version, rowCountAt, modeAt, thresholdAt, maximumAt, accessesAt, hitsAt, countAt, nextAt, exceededAt, settingsAt, rowAt, recencyAt, addressesAt, layoutWords, modeWord, modeOf, holdWord, holdOf, kindWord}
 
 -- ---- rows by number
 
@@ -57,7 +57,8 @@ run n l = l ++ replicate (n - length l) ones
 
 -- The header before the settings, with n rows.
 abbrev pub firstWords : ℕ → Cache → List ℕ
-firstWords n c = version ∷ n ∷ modeWord (c .mode) ∷ c .threshold ∷ c .maximum ∷ c .accesses ∷ c .hits ∷ c .count ∷ c .next ∷ []
+firstWords n c =
+    version ∷ n ∷ modeWord (c .mode) ∷ c .threshold ∷ c .maximum ∷ c .accesses ∷ c .hits ∷ c .count ∷ c .next ∷ flagWord (c .exceeded) ∷ []
 
 abbrev pub headWords : Cache → List ℕ
 headWords c = firstWords (length (c .rows)) c ++ settingsWords (c .settings)
@@ -110,6 +111,7 @@ cacheWith n ws = record {
   hits = getD ws hitsAt 0;
   count = getD ws countAt 0;
   next = getD ws nextAt 0;
+  exceeded = flagOf (getD ws exceededAt 0);
 }
 
 unfoldable pub cacheIn : List ℕ → Cache

@@ -17,6 +17,12 @@ use crate::word::mode_word;
 use settings::Mode;
 use settings::Settings;
 
+// The number of a fresh cache's first list.
+const FIRST_NUMBER: u64 = 1;
+
+// No room was made yet.
+const NOT_EXCEEDED: u64 = 0;
+
 // Writes v over the n words at `at`.
 fn fill_part(table: &mut [u64], at: usize, n: usize, v: u64)
     requires { ⌜ at + n ≤ length (now table) ⌝ }
@@ -33,7 +39,18 @@ pub fn write_fresh(table: &mut [u64], rows: usize, mode: Mode, threshold: u64, s
     ensures { λ _. ⌜ FloatsFit s ⌝ }
 {
     let mode = mode_word(mode);
-    let head = [VERSION, rows as u64, mode, threshold, s.initial, 0, 0, 0, 1];
+    let head = [
+        VERSION,
+        rows as u64,
+        mode,
+        threshold,
+        s.initial,
+        0,
+        0,
+        0,
+        FIRST_NUMBER,
+        NOT_EXCEEDED,
+    ];
     words::copy_in(table, &head);
     put_settings(table, s);
     fill_part(table, HEADER, rows * WIDTH, 0);

@@ -8,11 +8,12 @@
 //     5, 6         accesses, hits
 //     7            byte count
 //     8            the next list's number
-//     9 .. 29      settings
-//     30           rows, 6 words each: address, size, dirty, idle, pinned, hold; all zero where the row is free
-//     30 + 6 n     recency run: the rows of the recency list from the tail to the head, then all ones
-//     30 + 7 n     address run: the used rows by rising address, then all ones
-//     30 + 8 n     the end; the words from here on are never touched
+//     9            1 if making room found held plus incoming above the maximum since the counters restarted, else 0
+//     10 .. 30     settings
+//     31           rows, 6 words each: address, size, dirty, idle, pinned, hold; all zero where the row is free
+//     31 + 6 n     recency run: the rows of the recency list from the tail to the head, then all ones
+//     31 + 7 n     address run: the used rows by rising address, then all ones
+//     31 + 8 n     the end; the words from here on are never touched
 //
 // The functions read and write one part each. They ask only that the part lies in the table, and state every word.
 pub mod fresh;
@@ -24,7 +25,7 @@ pub mod run;
 pub mod word;
 
 // "SPLDVT" and the layout's number.
-pub const VERSION: u64 = 0x5350_4c44_5654_0002;
+pub const VERSION: u64 = 0x5350_4c44_5654_0003;
 
 // The word that names no row.
 pub const ONES: u64 = 18446744073709551615;
@@ -48,10 +49,12 @@ pub const COUNT_AT: usize = 7;
 
 pub const NEXT_AT: usize = 8;
 
-pub const SETTINGS_AT: usize = 9;
+pub const EXCEEDED_AT: usize = 9;
+
+pub const SETTINGS_AT: usize = 10;
 
 // The words before the rows.
-pub const HEADER: usize = 30;
+pub const HEADER: usize = 31;
 
 // The words of a row.
 pub const WIDTH: usize = 6;

@@ -1,16 +1,18 @@
 -- The header's words written.
 use Prim.Native.Nat.{ℕ, _≤_}
+use mathlib.Core.Bool.{Bool}
 use mathlib.Core.List.{List}
 use mathlib.Core.Path.{_≡_, refl, ap, _∙_}
 use lib.ListN.{set}
 use Rattle.settings.specs.declared.Settings.{Settings}
 use Rattle.settings_words.specs.FloatsFit.{FloatsFit}
-use Rattle.rules.specs.Cache.{Cache, withSettings, withMaximum, withCounters, withCount, withNext}
+use Rattle.settings_words.specs.Words.{flagWord}
+use Rattle.rules.specs.Cache.{Cache, withSettings, withMaximum, withCounters, withCount, withNext, withExceeded}
 use Rattle.rules.specs.Limits.{countStop}
 use Rattle.rules.proofs.Moves.{sound-same}
 use Rattle.layout.specs.Holds.{Steady, Holds}
 use Rattle.layout.specs.Leaves.{putSettings}
-use Rattle.layout.proofs.Encoded.{maximum-encode, counters-encode, count-encode, next-encode, settings-encode}
+use Rattle.layout.proofs.Encoded.{maximum-encode, counters-encode, count-encode, next-encode, exceeded-encode, settings-encode}
 use Rattle.layout.proofs.Held.{holds}
 use Rattle.table.specs.Asked.{Settable}
 
@@ -51,6 +53,11 @@ module _ {ws : List ℕ} {c : Cache} {rest : List ℕ} (h : Holds ws c rest) whe
   next-holds n =
       holds (ap (λ (x : List ℕ). set x 8 n) (h .words) ∙ next-encode c rest n)
       (steady-as c (withNext n c) (h .steady) refl refl (h .steady .floats) as-before (h .steady .count))
+
+  pub exceeded-holds : (b : Bool) → Holds (set ws 9 (flagWord b)) (withExceeded b c) rest
+  exceeded-holds b =
+      holds (ap (λ (x : List ℕ). set x 9 (flagWord b)) (h .words) ∙ exceeded-encode c rest b)
+      (steady-as c (withExceeded b c) (h .steady) refl refl (h .steady .floats) as-before (h .steady .count))
 
   pub settings-holds : (s : Settings) (n : ℕ) → FloatsFit s → Settable s n → Holds (set (putSettings s ws) 4 n) (withMaximum n (withSettings s c)) rest
   settings-holds s n f k =

@@ -2,13 +2,14 @@
 ghost use mathlib.Core.Path.{_≡_};
 ghost use Prim.Native.Nat.{_≤_};
 ghost use lib.ListN.{length};
-ghost use Rattle.rules.specs.Cache.{withSettings, withMaximum, withCounters, withCount, withNext, restart};
+ghost use Rattle.rules.specs.Cache.{withSettings, withMaximum, withCounters, withCount, withNext, withExceeded, restart};
 ghost use Rattle.rules.specs.Limits.{countStop};
 ghost use Rattle.layout.specs.Picture.{cacheIn, restIn};
 ghost use Rattle.layout.specs.Holds.{Holds, Good};
 ghost use Rattle.table.specs.Asked.{Settable};
 use layout::ACCESSES_AT;
 use layout::COUNT_AT;
+use layout::EXCEEDED_AT;
 use layout::HITS_AT;
 use layout::MAXIMUM_AT;
 use layout::MODE_AT;
@@ -20,6 +21,7 @@ use layout::header::settings_at;
 use layout::word::mode_of;
 use settings::Mode;
 use settings::Settings;
+use settings_words::flag_word;
 
 pub fn row_count(table: &[u64]) -> usize
     requires { ⌜ Good (now table) ⌝ }
@@ -79,6 +81,14 @@ pub fn next_number(table: &[u64]) -> u64
     table[NEXT_AT]
 }
 
+// Whether making room found held plus incoming above the maximum since the counters last restarted.
+pub fn exceeded(table: &[u64]) -> bool
+    requires { ⌜ Good (now table) ⌝ }
+    ensures { λ r. ⌜ r ≡ cacheIn (now (table .entry)) .exceeded ⌝ }
+{
+    table[EXCEEDED_AT] != 0
+}
+
 pub fn settings(table: &[u64]) -> Settings
     requires { ⌜ Good (now table) ⌝ }
     ensures { λ r. ⌜ r ≡ cacheIn (now (table .entry)) .settings ⌝ }
@@ -102,12 +112,20 @@ pub fn set_counters(table: &mut [u64], accesses: u64, hits: u64)
     table[HITS_AT] = hits;
 }
 
-// Counters restart.
+// Counters restart, and what making room found since is cleared.
 pub fn restart(table: &mut [u64])
     requires { ⌜ Good (now table) ⌝ }
     ensures { λ _. ⌜ Holds (now (table .exit)) (restart (cacheIn (now (table .entry)))) (restIn (now (table .entry))) ⌝ }
 {
     set_counters(table, 0, 0);
+    set_exceeded(table, false);
+}
+
+pub fn set_exceeded(table: &mut [u64], exceeded: bool)
+    requires { ⌜ Good (now table) ⌝ }
+    ensures { λ _. ⌜ Holds (now (table .exit)) (withExceeded exceeded (cacheIn (now (table .entry)))) (restIn (now (table .entry))) ⌝ }
+{
+    table[EXCEEDED_AT] = flag_word(exceeded);
 }
 
 pub fn set_count(table: &mut [u64], n: u64)

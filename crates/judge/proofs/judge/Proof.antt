@@ -62,11 +62,14 @@ shared-slice-read-settings-allowed-3 c = search needs
 shared-slice-read-settings-allowed-4 : tie.Need-shared-slice-read-settings-allowed-4
 shared-slice-read-settings-allowed-4 c = search needs
 
+shared-slice-read-settings-allowed-5 : tie.Need-shared-slice-read-settings-allowed-5
+shared-slice-read-settings-allowed-5 c = search needs
+
 settings-allowed-requires : tie.Need-settings-allowed-requires
 settings-allowed-requires c κs = search needs
 
 returns-4 : tie.Need-returns-4
-returns-4 c = answered (says-no (λ p. denies (from-settings (c .before .before .before .before .before .before .before .before .before .before .before .before .before .before .before .before .before .before .before .args .table .now) (c .before .settings-allowed .ensures)) (not-true _ (c .if4 .taken)) (p .settings)))
+returns-4 c = answered (says-no (λ p. denies (from-settings (c .before .before .before .before .before .before .before .before .before .before .before .before .before .before .before .before .before .before .before .before .args .table .now) (c .before .settings-allowed .ensures)) (not-true _ (c .if4 .taken)) (p .settings)))
 
 mul-parts-allowed : tie.Need-mul-parts-allowed
 mul-parts-allowed c = search needs
@@ -93,20 +96,20 @@ part-parts-allowed-end-2 : tie.Need-part-parts-allowed-end-2
 part-parts-allowed-end-2 c = search needs
 
 parts-allowed-requires : tie.Need-parts-allowed-requires
-parts-allowed-requires c κs = let h = c .before .before .before .before .before .before .before .before .before .before .before .before .before .before .opening-allowed .ensures .sound (not-false _ (c .before .before .before .before .before .before .before .before .before .before .before .before .before .if2 .left)) in (h .rows, omega (arith, c .before .before .before .before .before .before .before .before .before .before .layout-words .ensures))
+parts-allowed-requires c κs = let h = c .before .before .before .before .before .before .before .before .before .before .before .before .before .before .before .opening-allowed .ensures .sound (not-false _ (c .before .before .before .before .before .before .before .before .before .before .before .before .before .before .if2 .left)) in (h .rows, omega (arith, c .before .before .before .before .before .before .before .before .before .before .before .layout-words .ensures))
 
 returns-5 : tie.Need-returns-5
 returns-5 c =
-    let h = c .before .before .before .before .before .before .before .before .before .before .before .before .before .before .before .opening-allowed .ensures .sound (not-false _ (c .before .before .before .before .before .before .before .before .before .before .before .before .before .before .if2 .left)) in
+    let h = c .before .before .before .before .before .before .before .before .before .before .before .before .before .before .before .before .opening-allowed .ensures .sound (not-false _ (c .before .before .before .before .before .before .before .before .before .before .before .before .before .before .before .if2 .left)) in
     answered (says-by
     (λ q. record {
       whole = omega arith;
       opening = h;
-      long = omega (arith, c .before .before .before .before .before .before .before .before .before .before .before .layout-words .ensures);
-      settings = from-settings (c .before .before .before .before .before .before .before .before .before .before .before .before .before .before .before .before .before .before .before .before .before .before .args .table .now) (c .before .before .before .before .settings-allowed .ensures) .sound (not-false _ (c .before .before .before .if4 .left));
+      long = omega (arith, c .before .before .before .before .before .before .before .before .before .before .before .before .layout-words .ensures);
+      settings = from-settings (c .before .before .before .before .before .before .before .before .before .before .before .before .before .before .before .before .before .before .before .before .before .before .before .args .table .now) (c .before .before .before .before .settings-allowed .ensures) .sound (not-false _ (c .before .before .before .if4 .left));
       parts = q;
     })
-    (λ p. p .parts) (rw (c .before .before .before .before .before .before .before .before .before .before .before .before .before .recency-at .ensures, c .before .before .before .before .before .before .before .before .before .before .before .before .addresses-at .ensures, c .before .before .before .before .before .before .before .before .before .before .before .layout-words .ensures) at (c .parts-allowed .ensures)))
+    (λ p. p .parts) (rw (c .before .before .before .before .before .before .before .before .before .before .before .before .before .before .recency-at .ensures, c .before .before .before .before .before .before .before .before .before .before .before .before .before .addresses-at .ensures, c .before .before .before .before .before .before .before .before .before .before .before .before .layout-words .ensures) at (c .parts-allowed .ensures)))
 
 pub judge-spec : {M : Type 1} → statement M
 judge-spec =
@@ -130,6 +133,7 @@ judge-spec =
     shared-slice-read-settings-allowed-2
     shared-slice-read-settings-allowed-3
     shared-slice-read-settings-allowed-4
+    shared-slice-read-settings-allowed-5
     settings-allowed-requires
     returns-4
     mul-parts-allowed

@@ -17,10 +17,13 @@ returns-4 : tie.Need-returns-4
 returns-4 c = says-no (λ p. omega arith)
 
 returns-5 : tie.Need-returns-5
-returns-5 c =
+returns-5 c = says-no (λ p. omega arith)
+
+returns-6 : tie.Need-returns-6
+returns-6 c =
     says-leb _ _
-    (λ e. record { least = omega arith; most = omega arith; accesses = omega arith; hits = omega arith; count = e })
+    (λ e. record { least = omega arith; most = omega arith; accesses = omega arith; hits = omega arith; exceeded = omega arith; count = e })
     (λ p. p .count)
 
 pub figures-allowed-spec : {M : Type 1} → statement M
-figures-allowed-spec = tie.close (tie.spec returns returns-2 returns-3 returns-4 returns-5)
+figures-allowed-spec = tie.close (tie.spec returns returns-2 returns-3 returns-4 returns-5 returns-6)
