@@ -23,7 +23,7 @@ use Rattle.room.specs.Did.{Did, Fits}
 
 module _ (x : ℕ) (c : Cache) {table₁ rest : List ℕ} (h : Holds table₁ (flashed x c) rest) where
   flashed-rows : flashed x c .rows ≡ c .rows
-  flashed-rows = flash-elim (λ (d : Cache). d .rows ≡ c .rows) x c (λ n i j. refl)
+  flashed-rows = flash-elim (λ (d : Cache). d .rows ≡ c .rows) x c (λ n i j b. refl)
 
   pub flash-good : {rows : ℕ} → rows ≡ length (c .rows) → GoodRows table₁ rows
   flash-good e = good-rows h (e ∙ sym (ap length flashed-rows))

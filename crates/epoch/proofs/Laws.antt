@@ -62,9 +62,9 @@ scaled c maximum target m {ws} {rest} p e h = subst (λ (i : ℕ). Holds ws (low
 
 -- ---- the increase
 
-pub increased-is : (c : Cache) (s : Settings) (maximum h n : ℕ) (rate : Float) → s ≡ c .settings → maximum ≡ c .maximum → h ≡ held c
-    → n ≡ increasedBy (s .increase) (s .increment) rate (leb maximum h) maximum (s .largest) → n ≡ increasedIn rate c
-increased-is c s maximum h n rate p q r e = e ∙ rw (p, q, r)
+pub increased-is : (c : Cache) (s : Settings) (maximum h n : ℕ) (above : Bool) (rate : Float) → s ≡ c .settings → maximum ≡ c .maximum → h ≡ held c
+    → above ≡ c .exceeded → n ≡ increasedBy (s .increase) (s .increment) rate (above || leb maximum h) maximum (s .largest) → n ≡ increasedIn rate c
+increased-is c s maximum h n above rate p q r t e = e ∙ rw (p, q, r, t)
 
 increase-most : (i : Increase) (k : Cap) (r : Float) (full : Bool) (m l : ℕ) → m ≤ l → increasedBy i k r full m l ≤ l
 increase-most increase.Off k r full m l h = h

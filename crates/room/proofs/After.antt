@@ -17,7 +17,7 @@ use Rattle.rules.specs.Addresses.{nearest}
 use Rattle.rules.specs.Cache.{Work, withMaximum}
 use Rattle.rules.specs.Entries.{if_then_else_}
 use Rattle.rules.specs.Resizing.{evictAged, expel, agedAt, lower, increasedIn, ageOut, decreasedBy, resized, aged, endEpoch, counts, countAccess, counted, endIfDue}
-use Rattle.rules.specs.Room.{evict, write, writeInPlace, lacking, shareMissing, lookAtTail, tailTurn, cleanTurn, orStay, turns, writeDirty, roomIn, makeRoom}
+use Rattle.rules.specs.Room.{evict, write, writeInPlace, lacking, shareMissing, lookAtTail, tailTurn, cleanTurn, orStay, turns, writeDirty, roomIn, noticed, makeRoom}
 use Rattle.rules.specs.Rows.{cleanAt, dirtyAt}
 
 module _ (before : List Order) where
@@ -72,12 +72,12 @@ module _ (before : List Order) where
 
   pub room-carries : (x : ℕ) (row : Bool) (w : Work) → makeRoom x row (after before w) ≡ after before (makeRoom x row w)
   unfolding makeRoom roomIn
-  room-carries x row w = chosen (w .cache .settings .evictions) (roomIn (w .cache .mode) x row w) w (go (w .cache .mode)) refl
+  room-carries x row w = chosen (w .cache .settings .evictions) (roomIn (w .cache .mode) x row (noticed x w)) w (go (w .cache .mode) (noticed x w)) refl
     where
-      go : (m : Mode) → roomIn m x row (after before w) ≡ after before (roomIn m x row w)
-      go Alone = rw (turns-carry tailTurn tail-carries _ x row w) (dirty-carries x _ _)
-      go Lead = turns-carry cleanTurn clean-carries _ x row w
-      go Standby = turns-carry cleanTurn clean-carries _ x row w
+      go : (m : Mode) (u : Work) → roomIn m x row (after before u) ≡ after before (roomIn m x row u)
+      go Alone u = rw (turns-carry tailTurn tail-carries _ x row u) (dirty-carries x _ _)
+      go Lead u = turns-carry cleanTurn clean-carries _ x row u
+      go Standby u = turns-carry cleanTurn clean-carries _ x row u
 
   expel-carries : (m : Mode) (a : ℕ) (w : Work) → expel m a (after before w) ≡ after before (expel m a w)
   expel-carries Alone a w =

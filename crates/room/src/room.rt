@@ -3,17 +3,22 @@ ghost use mathlib.Core.Path.{_≡_};
 ghost use Prim.Native.Nat.{_≤_};
 ghost use Rattle.rules.specs.Cache.{start};
 ghost use Rattle.rules.specs.Limits.{mostSize};
-ghost use Rattle.rules.specs.Room.{roomIn, makeRoom};
+ghost use Rattle.rules.specs.Room.{roomIn, noticed, makeRoom};
+ghost use Rattle.rules.specs.Rows.{heldBytes};
 ghost use Rattle.rules.specs.Refusals.{isAlone};
+ghost use Rattle.layout.specs.Holds.{Holds, Good};
 ghost use Rattle.layout.specs.Picture.{cacheIn, restIn};
 ghost use Rattle.table.specs.Asked.{GoodRows};
 ghost use Rattle.room.specs.Did.{Did, Fits};
 ghost use Rattle.room.specs.Held.{HeldIs};
 use crate::held::Held;
+use crate::held::held_now;
 use crate::pass::evict_until;
 use crate::share::write_dirty;
 use entries::is_alone;
+use table::header::maximum;
 use table::header::mode;
+use table::header::set_exceeded;
 use table::header::settings;
 
 // What work that may give orders tells.
@@ -44,6 +49,27 @@ fn room_in(
     Done { given }
 }
 
+// It is noted if held plus incoming exceeds the maximum, whether or not anything can be evicted.
+fn note_exceeded(table: &mut [u64], size: u64, held: u64)
+    requires { ⌜ Good (now table) × (size ≤ mostSize) × (held ≡ heldBytes (cacheIn (now table) .rows)) ⌝ }
+    ensures { λ _. ⌜ Holds (now (table .exit)) (noticed size (start (cacheIn (now (table .entry)))) .cache) (restIn (now (table .entry))) ⌝ }
+{
+    if maximum(table) < held + size {
+        set_exceeded(table, true);
+    }
+}
+
+// Room begins with that, and with the held bytes.
+fn begin_room(table: &mut [u64], rows: usize, size: u64, known: Held) -> u64
+    requires { ⌜ GoodRows (now table) rows × (size ≤ mostSize) × HeldIs known (cacheIn (now table)) ⌝ }
+    ensures { λ _. ⌜ Holds (now (table .exit)) (noticed size (start (cacheIn (now (table .entry)))) .cache) (restIn (now (table .entry))) ⌝ }
+    ensures { λ r. ⌜ r ≡ heldBytes (cacheIn (now (table .entry)) .rows) ⌝ }
+{
+    let held = held_now(table, rows, known);
+    note_exceeded(table, size, held);
+    held
+}
+
 // Room for an incoming size and, if one is wanted, a row.
 pub fn make_room(
     table: &mut [u64],
@@ -61,6 +87,7 @@ pub fn make_room(
     if !s.evictions {
         return Done { given: before };
     }
+    let held = Held::Known(begin_room(table, rows, size, known));
     let alone = is_alone(mode(table));
-    room_in(table, orders, rows, alone, size, row, before, known)
+    room_in(table, orders, rows, alone, size, row, before, held)
 }

@@ -11,6 +11,9 @@ settings-requires c κs = search needs
 maximum-requires : tie.Need-maximum-requires
 maximum-requires c κs = search needs
 
+exceeded-requires : tie.Need-exceeded-requires
+exceeded-requires c κs = search needs
+
 held-bytes-requires : tie.Need-held-bytes-requires
 held-bytes-requires c κs = search needs
 
@@ -19,14 +22,20 @@ increased-requires c κs = search needs
 
 returns : tie.Need-returns
 returns c =
-    let s = c .before .before .before .before .before in
-    let t = c .before .before .before .settings in
-    let m = c .before .before .maximum in
+    let t = c .before .before .before .before .settings in
+    let m = c .before .before .before .maximum in
     let h = c .before .held-bytes in
+    let x = c .before .before .exceeded in
     let n = c .increased in
-    increased-is (cacheIn (s .args .table .now)) (t .result) (m .result) (h .result) (n .result) (s .args .rate) (t .ensures) (m .ensures) (h .ensures) (n .ensures)
+    increased-is (cacheIn (c .before .before .before .before .before .before .args .table .now)) (t .result) (m .result) (h .result) (n .result) (x .result) (c .before .before .before .before .before .before .args .rate) (t .ensures) (m .ensures) (h .ensures) (x .ensures) (n .ensures)
 
 pub increased-maximum-spec : {M : Type 1} → statement M
 increased-maximum-spec =
     tie.close
-    (tie.spec settings-requires maximum-requires held-bytes-requires increased-requires returns)
+    (tie.spec
+    settings-requires
+    maximum-requires
+    exceeded-requires
+    held-bytes-requires
+    increased-requires
+    returns)
