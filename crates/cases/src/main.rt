@@ -15,6 +15,7 @@ use requests::take;
 use requests::unpin;
 use requests::use_often;
 use settings::Decrease;
+use settings::Increase;
 use settings::Mode;
 use shell::print;
 use small_setup::ORDER_WORDS;
@@ -66,6 +67,28 @@ fn p4(table: &mut Table, orders: &mut Orders) {
     protect(table, orders, 100, 10);
     release(table, orders, 100);
     discard(table, orders, 100);
+    report(table);
+}
+
+// 89 hits of 100, with held bytes far below the maximum when the epoch ends: 400 came and went ten
+// times, and each time making room found it above the maximum.
+fn p6(table: &mut Table, orders: &mut Orders) {
+    print::text(b"P6\n");
+    let rising = Increase::Threshold {
+        lower: 0.9,
+        multiplier: 2.0,
+    };
+    open(
+        table,
+        ROWS,
+        Mode::Alone,
+        default_threshold(),
+        small_with(rising, Decrease::Off),
+    );
+    use_often(table, orders, 400, 5000, 10);
+    use_often(table, orders, 300, 500, 89);
+    report(table);
+    use_often(table, orders, 300, 500, 1);
     report(table);
 }
 
@@ -124,7 +147,7 @@ fn case_12(table: &mut Table, orders: &mut Orders) {
         ROWS,
         Mode::Alone,
         default_threshold(),
-        small_with(ageing),
+        small_with(Increase::Off, ageing),
     );
     insert(table, orders, 100, 1500);
     use_often(table, orders, 100, 1500, 1);
@@ -145,6 +168,7 @@ fn main() {
     p2(&mut table, &mut orders);
     p3(&mut table, &mut orders);
     p4(&mut table, &mut orders);
+    p6(&mut table, &mut orders);
     p9(&mut table, &mut orders);
     p10(&mut table, &mut orders);
     messages(&mut table, &mut orders);

@@ -12,7 +12,6 @@ use Rattle.rules.specs.Answers.{answerOrders}
 use Rattle.rules.specs.Cache.{Cache, fresh}
 use Rattle.rules.specs.Hosts.{accepted, asking}
 use Rattle.rules.specs.History.{evictedBytes, next, Past, past, plus}
-use Rattle.rules.specs.Refusals.{Call}
 use Rattle.rules.specs.Reports.{reportOf}
 use Rattle.rules.specs.Requests.{Outcome, effect}
 use Rattle.rules.specs.declared.answer.Answer.the-variants.{Accepted}
@@ -20,7 +19,7 @@ use Rattle.settings.specs.declared.Mode.{Mode}
 use Rattle.rules.specs.declared.request.Request.{Request}
 use Rattle.layout.specs.Picture.{cacheIn}
 use Rattle.judge.specs.Verdict.{judgeWords}
-use Rattle.runs.specs.History.{TableCall, evictedIn, TablePast, addedTo, tablePast, Balances, TableBalanced, ReportBalanced}
+use Rattle.runs.specs.History.{TableCall, callOf, evictedIn, TablePast, addedTo, tablePast, Balances, TableBalanced, ReportBalanced}
 use Rattle.runs.specs.Hosts.{accepts}
 use Rattle.cache.specs.Tables.{Left, carriedOut, stepWords, openWords}
 use Rattle.cache.proofs.StepAnswers.{carried}
@@ -44,11 +43,8 @@ module _ (ws os message : List ℕ) (r : Request) (v : judgeWords ws ≡ true) (
 
 -- ---- a run
 
-abbrev callOf : TableCall → Call
-callOf call = asking (call .request) (call .message) (length (call .orders))
-
-record Same (p : TablePast) (q : Past) : Type 0 where
-  pictures : Pictures (p .table) (q .cache)
+pub record Same (p : TablePast) (q : Past) : Type 0 where
+  pub pictures : Pictures (p .table) (q .cache)
   brought : p .brought ≡ q .brought
   grown : p .grown ≡ q .grown
   evicted : p .evicted ≡ q .evicted
@@ -76,7 +72,7 @@ goes-on p q call k =
       shrunk = rw (a, k .shrunk);
     })
 
-same-past : (ws : List ℕ) (c : Cache) (calls : List TableCall) → Pictures ws c → Same (tablePast ws calls) (past c (map callOf calls))
+pub same-past : (ws : List ℕ) (c : Cache) (calls : List TableCall) → Pictures ws c → Same (tablePast ws calls) (past c (map callOf calls))
 unfolding tablePast past
 same-past ws c [] h = record { pictures = h; brought = refl; grown = refl; evicted = refl; discarded = refl; shrunk = refl }
 same-past ws c (call ∷ calls) h = goes-on (tablePast ws calls) (past c (map callOf calls)) call (same-past ws c calls h)

@@ -3,6 +3,7 @@ pub mod Pictured
 pub mod Read
 pub mod Hosts
 pub mod History
+pub mod Full
 pub mod Runs
 pub mod AskedRuns
 pub mod AskedShown

@@ -30,9 +30,10 @@ moves-settings (Moves.evicts a e g l d m) = moves-settings m
 moves-settings (Moves.writes a e r k g l d s m) = moves-settings m
 moves-settings (Moves.tunes n h k y m) = moves-settings m
 moves-settings (Moves.ages y m) = moves-settings m
+moves-settings (Moves.notes b m) = moves-settings m
 
 flash-settings : (x : ℕ) (c : Cache) → flashed x c .settings ≡ c .settings
-flash-settings x c = flash-elim (λ (d : Cache). d .settings ≡ c .settings) x c (λ n h k. refl)
+flash-settings x c = flash-elim (λ (d : Cache). d .settings ≡ c .settings) x c (λ n h k b. refl)
 
 module _ (c : Cache) (lent : ℕ) (message : List ℕ) (k : Sound c) (p : FloatsFit (c .settings)) where
   kept : {s : Settings} → s ≡ c .settings → FloatsFit s

@@ -3,7 +3,7 @@ use Prim.Native.Nat.{ℕ, zero, suc, _+_, _-_}
 use mathlib.Core.Path.{_≡_}
 use mathlib.Core.List.{List, [], _∷_}
 use lib.Dec.{eqb}
-use lib.ListN.{getD, drop}
+use lib.ListN.{length, getD, drop}
 use Rattle.rules.specs.declared.answer.Answer.the-variants.{Accepted}
 use Rattle.rules.specs.declared.order.Kind.the-variants.{Evict}
 use Rattle.rules.specs.declared.request.Request.{Request}
@@ -11,6 +11,8 @@ use Rattle.rules.specs.Answers.{answerOrders}
 use Rattle.rules.specs.Cache.{held}
 use Rattle.rules.specs.Entries.{if_then_else_}
 use Rattle.rules.specs.History.{broughtIn, newSize, oldSize, plus, thrownAway}
+use Rattle.rules.specs.Hosts.{asking}
+use Rattle.rules.specs.Refusals.{Call}
 use Rattle.layout.specs.Layout.{kindWord}
 use Rattle.layout.specs.Picture.{cacheIn}
 use Rattle.runs.specs.Hosts.{accepts, FloatsOf}
@@ -22,6 +24,10 @@ pub record TableCall : Type 0 where
   pub orders : List ℕ
   pub message : List ℕ
   pub floats : FloatsOf request
+
+-- The call as the rules name it.
+abbrev pub callOf : TableCall → Call
+callOf call = asking (call .request) (call .message) (length (call .orders))
 
 -- The bytes of the evict orders among the first n.
 unfoldable pub evictedIn : ℕ → List ℕ → ℕ

@@ -2,7 +2,6 @@
 ghost use mathlib.Core.Path.{_≡_};
 ghost use Rattle.rules.specs.Cases.{small, smallWith};
 ghost use Rattle.settings.specs.declared.Flash.the-variants as flash;
-ghost use Rattle.settings.specs.declared.Increase.the-variants as increase;
 use settings::Cap;
 use settings::Decrease;
 use settings::Flash;
@@ -21,9 +20,9 @@ pub const ORDER_WORDS: usize = 27;
 
 pub type Orders = [u64; ORDER_WORDS];
 
-// The small setup with a decrease rule.
-pub fn small_with(decrease: Decrease) -> Settings
-    ensures { λ r. ⌜ r ≡ smallWith increase.Off flash.Off decrease ⌝ }
+// The small setup with an increase and a decrease rule.
+pub fn small_with(increase: Increase, decrease: Decrease) -> Settings
+    ensures { λ r. ⌜ r ≡ smallWith increase flash.Off decrease ⌝ }
 {
     Settings {
         evictions: true,
@@ -33,7 +32,7 @@ pub fn small_with(decrease: Decrease) -> Settings
         largest: 16384,
         smallest: 1024,
         epoch: 100,
-        increase: Increase::Off,
+        increase,
         increment: Cap::None,
         flash: Flash::Off,
         decrease,
@@ -45,5 +44,5 @@ pub fn small_with(decrease: Decrease) -> Settings
 pub fn small() -> Settings
     ensures { λ r. ⌜ r ≡ small ⌝ }
 {
-    small_with(Decrease::Off)
+    small_with(Increase::Off, Decrease::Off)
 }
