@@ -63,11 +63,12 @@
  *   6          hits in this epoch
  *   7          bytes made dirty since the last list
  *   8          number of the next message, 0 if none is left
- *   9 .. 29    settings
- *   30         n rows of 6 words: address, size, dirty, idle count, pinned, hold
- *   30 + 6 n   recency run: row numbers from the oldest entry to the newest, then all ones
- *   30 + 7 n   address run: row numbers of the entries by rising address, then all ones
- *   30 + 8 n   the end; words past it are never touched
+ *   9          1 if making room found the maximum exceeded since the counters restarted, else 0
+ *   10 .. 30   settings
+ *   31         n rows of 6 words: address, size, dirty, idle count, pinned, hold
+ *   31 + 6 n   recency run: row numbers from the oldest entry to the newest, then all ones
+ *   31 + 7 n   address run: row numbers of the entries by rising address, then all ones
+ *   31 + 8 n   the end; words past it are never touched
  *
  * Only the library writes to an open table. There are no pointers in it: between calls the host may
  * read, copy, move or store it, and go on with a copy. A table whose words picture no cache is
@@ -128,14 +129,14 @@ extern "C" {
 /* ---- version, of the header and the library; a table's version is its layout's and counts apart */
 
 #define SPELDERVACHT_VERSION_MAJOR 0
-#define SPELDERVACHT_VERSION_MINOR 3
+#define SPELDERVACHT_VERSION_MINOR 4
 #define SPELDERVACHT_VERSION_PATCH 0
-#define SPELDERVACHT_VERSION "0.3.0"
+#define SPELDERVACHT_VERSION "0.4.0"
 
 /* ---- sizes and limits */
 
 /* The words of a table, and of the orders that one request may give. */
-#define SPELDERVACHT_TABLE_WORDS(rows) (30 + 8 * (size_t)(rows))
+#define SPELDERVACHT_TABLE_WORDS(rows) (31 + 8 * (size_t)(rows))
 #define SPELDERVACHT_ORDER_WORDS(rows) (3 * (2 * (size_t)(rows) + 1))
 /* The most addresses of a list that a lead with so many rows sends, or a standby with so many takes. */
 #define SPELDERVACHT_LIST_WORDS(rows) ((size_t)(rows))
@@ -260,7 +261,12 @@ enum speldervacht_decrease {
  * their kind does not name are not read. Two fields depend on others: evictions may be off only if
  * the increase, flash and decrease rules are all off (else field 1 is bad), and the lower rate must
  * be below the upper rate if both count, the increase rule being on and the decrease rule one with
- * an upper rate (else field 8 is bad). */
+ * an upper rate (else field 8 is bad).
+ *
+ * At an epoch's end the cache is full if held bytes reach the maximum, or if since the counters of
+ * accesses and hits last restarted making room found held plus incoming bytes above the maximum, whether
+ * or not anything could be evicted. They restart at an epoch's end, at a configure and when a flash
+ * raises the maximum; room that the same request makes after that counts again. */
 typedef struct speldervacht_settings {
     uint64_t evictions;         /*  1: evictions: 0 is off, all else on; off only with all rules off */
     uint64_t preset;            /*  2: whether the initial size is set; needed at opening */

@@ -13,7 +13,8 @@
 #define ANSWERS SPELDERVACHT_ANSWER_WORDS(MOST_REQUESTS)
 #define MOST_ORDERS SPELDERVACHT_BATCH_ORDER_WORDS(ROWS, 60)
 #define MODES 3
-#define NEXT 8 /* where a table has the number of the next message */
+#define NEXT 8     /* where a table has the number of the next message */
+#define EXCEEDED 9 /* where it has whether making room found the maximum exceeded: 0 or 1 */
 #define RUNS 3000
 
 /* A cache and all that is lent for a batch. */
@@ -197,6 +198,11 @@ static void damaged(void) {
         batched.table[6]++;
         expect_damaged(batched.table, TABLE, "more hits than accesses");
         batched.table[6]--;
+        batched.table[EXCEEDED] = 2;
+        expect_damaged(batched.table, TABLE, "neither 0 nor 1");
+        batched.table[EXCEEDED] = UINT64_MAX;
+        expect_damaged(batched.table, TABLE, "all ones for 0 or 1");
+        batched.table[EXCEEDED] = 0;
         if (empty) {
             put(SPELDERVACHT_INSERT, 100, 50);
         }

@@ -93,18 +93,18 @@ static void one_entry(void) {
 static void rule_kinds(void) {
     speldervacht_settings settings = speldervacht_default_settings();
     expect(open_small(SPELDERVACHT_LEAD) == SPELDERVACHT_ACCEPTED, "opening with no rules");
-    expect(table[16] == 0 && table[21] == 0 && table[24] == 0, "no increase, no flash, no decrease");
+    expect(table[17] == 0 && table[22] == 0 && table[25] == 0, "no increase, no flash, no decrease");
     settings.increment_kind = settings.decrement_kind = SPELDERVACHT_NO_CAP;
     settings.decrease_multiplier = 0.5;
     settings.decrease_kind = SPELDERVACHT_DECREASE_BY_THRESHOLD;
     expect(speldervacht_open(table, TABLE, ROWS, SPELDERVACHT_LEAD, 1, settings).number == SPELDERVACHT_ACCEPTED,
            "opening with a decrease by threshold");
-    expect(table[25] != 0 && table[26] == 0 && table[27] != 0, "upper rate and multiplier");
-    expect(table[20] == 0 && table[29] == 0, "no caps");
+    expect(table[26] != 0 && table[27] == 0 && table[28] != 0, "upper rate and multiplier");
+    expect(table[21] == 0 && table[30] == 0, "no caps");
     settings.decrease_kind = SPELDERVACHT_DECREASE_BY_AGE_OUT;
     expect(speldervacht_open(table, TABLE, ROWS, SPELDERVACHT_LEAD, 1, settings).number == SPELDERVACHT_ACCEPTED,
            "opening with an age-out");
-    expect(table[25] == 0 && table[26] == 3 && table[27] != 0, "epochs and reserve");
+    expect(table[26] == 0 && table[27] == 3 && table[28] != 0, "epochs and reserve");
 }
 
 static void refusals(void) {
@@ -311,6 +311,276 @@ static void figure_words(void) {
     expect(sizeof figures == sizeof expected && memcmp(&figures, expected, sizeof expected) == 0, "21 words");
 }
 
+/* ---- full */
+
+#define ACCESSES 5 /* where a table has the accesses of this epoch */
+#define EXCEEDED 9 /* where it has whether making room found the maximum exceeded */
+#define EPOCH SPELDERVACHT_SHORTEST_EPOCH
+#define POOR 89 /* hits of an epoch: below 0.9 of its accesses */
+
+/* The maximum doubles at the end of an epoch with less than 90 hits of 100 accesses, if the cache is full. */
+static speldervacht_settings growing_settings(void) {
+    speldervacht_settings settings = small_settings();
+    settings.epoch = EPOCH;
+    settings.increase_kind = SPELDERVACHT_INCREASE_BY_THRESHOLD;
+    settings.increase_lower = 0.9;
+    settings.increase_multiplier = 2.0;
+    settings.increment_kind = SPELDERVACHT_NO_CAP;
+    return settings;
+}
+
+/* A fresh cache, whatever the table's words were. */
+static void open_fresh(uint64_t mode, speldervacht_settings settings) {
+    memset(table, 0xff, sizeof table);
+    expect(open_with(mode, settings) == SPELDERVACHT_ACCEPTED, "opening over all ones");
+    expect(table[EXCEEDED] == 0, "a fresh cache was not exceeded");
+}
+
+static uint64_t configure(speldervacht_settings settings) {
+    speldervacht_request request = speldervacht_request_of(SPELDERVACHT_CONFIGURE, 0, 0);
+    request.settings = settings;
+    return checked_step(table, TABLE, orders, ORDERS, NULL, 0, request).number;
+}
+
+/* Reads a record; whether it was loaded, as the last of the orders. */
+static int loads(uint64_t address, uint64_t size) {
+    speldervacht_answer answer = step(SPELDERVACHT_PROTECT_FOR_READING, address, size);
+    int loaded = answer.orders != 0 && orders[3 * answer.orders - 3] == SPELDERVACHT_LOAD;
+    expect(answer.number == SPELDERVACHT_ACCEPTED, "an access");
+    expect(step(SPELDERVACHT_RELEASE_UNCHANGED, address, 0).number == SPELDERVACHT_ACCEPTED, "its release");
+    return loaded;
+}
+
+/* So many misses: a record of one byte comes and goes. */
+static void misses(uint64_t count) {
+    for (uint64_t i = 0; i < count; i++) {
+        expect(loads(900, 1), "a miss");
+        expect(step(SPELDERVACHT_DISCARD, 900, 0).number == SPELDERVACHT_ACCEPTED, "a discard");
+    }
+}
+
+/* So many hits of one record. */
+static void hits(uint64_t address, uint64_t count) {
+    for (uint64_t i = 0; i < count; i++) {
+        expect(!loads(address, 1), "a hit");
+    }
+}
+
+/* The maximum at the end of the epoch, whose last accesses are so many hits of one record. */
+static uint64_t maximum_after(uint64_t address, uint64_t count) {
+    hits(address, count);
+    expect(table[ACCESSES] == 0, "the epoch has ended");
+    return speldervacht_report(table, TABLE).maximum;
+}
+
+/* The maximum at the end of a poor epoch that begins now. */
+static uint64_t maximum_after_poor(uint64_t address) {
+    expect(table[ACCESSES] == 0, "an epoch begins");
+    misses(EPOCH - POOR);
+    return maximum_after(address, POOR);
+}
+
+/* A world at 97 percent whose first accesses miss, so many of 100: held bytes stay below the maximum, and it grows. */
+static void nearly_full(uint64_t count) {
+    open_fresh(SPELDERVACHT_ALONE, growing_settings());
+    step(SPELDERVACHT_INSERT, 100, 1324);
+    step(SPELDERVACHT_INSERT, 200, 1324);
+    step(SPELDERVACHT_INSERT, 300, 1325);
+    expect(speldervacht_report(table, TABLE).held == 3973, "97 percent");
+    for (uint64_t access = 1; access <= EPOCH; access++) {
+        const uint64_t address = 1000 + (access < count ? access : count);
+        speldervacht_answer answer = step(SPELDERVACHT_PROTECT_FOR_READING, address, 1325);
+        speldervacht_figures figures = speldervacht_report(table, TABLE);
+        expect((answer.orders != 0) == (access <= count), "a miss makes room, a hit gives no orders");
+        expect(figures.held < 4096, "held bytes stay below the maximum");
+        expect(figures.maximum == (access < EPOCH ? 4096 : 8192), "the maximum doubles at the end of the epoch");
+        expect(step(SPELDERVACHT_RELEASE_UNCHANGED, address, 0).orders == 0, "a release");
+    }
+}
+
+/* Room was made of other records: 89 hits of 100 raise the maximum, 90 do not. The next epoch begins anew. */
+static void found_by_insert(void) {
+    for (uint64_t count = POOR; count <= POOR + 1; count++) {
+        const uint64_t maximum = count == POOR ? 8192 : 4096;
+        open_fresh(SPELDERVACHT_ALONE, growing_settings());
+        misses(EPOCH - count);
+        step(SPELDERVACHT_INSERT, 100, 3000);
+        step(SPELDERVACHT_INSERT, 200, 1000);
+        expect(table[EXCEEDED] == 0, "nothing is found");
+        expect(step(SPELDERVACHT_INSERT, 300, 500).orders == 3 && order_is(0, SPELDERVACHT_WRITE, 100, 3000) &&
+                   order_is(1, SPELDERVACHT_WRITE, 200, 1000) && order_is(2, SPELDERVACHT_EVICT, 100, 3000),
+               "write 100, write 200, evict 100");
+        expect(table[EXCEEDED] == 1, "4,500 bytes are found");
+        expect(maximum_after(300, count) == maximum, "89 hits and full, or 90");
+        expect(table[EXCEEDED] == 0, "the end of the epoch clears it");
+        expect(maximum_after_poor(300) == maximum, "a poor epoch without finding anything");
+    }
+}
+
+/* Held bytes of 4,096 are full while they are there, and what comes up to that is not above it. */
+static void at_the_maximum(void) {
+    for (uint64_t last = 95; last <= 97; last++) {
+        for (int stays = 0; stays <= 1; stays++) {
+            const int full = last == 97 || (last == 96 && stays);
+            open_fresh(SPELDERVACHT_ALONE, growing_settings());
+            misses(EPOCH - POOR);
+            step(SPELDERVACHT_INSERT, 100, 3000);
+            step(SPELDERVACHT_INSERT, 200, 1000);
+            expect((step(SPELDERVACHT_INSERT, 300, last).orders != 0) == (last == 97), "orders above 4,096 bytes");
+            expect(table[EXCEEDED] == (last == 97), "4,097 bytes are found");
+            if (!stays) {
+                step(SPELDERVACHT_DISCARD, 300, 0);
+            }
+            expect(maximum_after(200, POOR) == (full ? 8192 : 4096), "full by 4,096 bytes held, or by what was found");
+        }
+    }
+}
+
+/* What is found counts if nothing can be evicted, as the cache is empty or its records are dirty, and if it has gone
+ * since. */
+static void nothing_to_evict(void) {
+    for (uint64_t mode = SPELDERVACHT_ALONE; mode <= SPELDERVACHT_STANDBY; mode++) {
+        open_fresh(mode, growing_settings());
+        expect(step(SPELDERVACHT_INSERT, 100, 5000).orders == 0 && table[EXCEEDED] == 1, "5,000 bytes are found");
+        step(SPELDERVACHT_DISCARD, 100, 0);
+        step(SPELDERVACHT_INSERT, 200, 10);
+        expect(maximum_after_poor(200) == 8192 && table[EXCEEDED] == 0, "found in an empty cache");
+        step(SPELDERVACHT_INSERT, 100, 4000);
+        expect((step(SPELDERVACHT_INSERT, 300, 5000).orders == 0) == (mode != SPELDERVACHT_ALONE), "who writes");
+        expect(table[EXCEEDED] == 1, "9,010 bytes are found");
+        step(SPELDERVACHT_DISCARD, 100, 0);
+        step(SPELDERVACHT_DISCARD, 300, 0);
+        step(SPELDERVACHT_INSERT, 400, 10);
+        expect(maximum_after_poor(400) == 16384, "found beside dirty records");
+    }
+}
+
+/* Rows that press, resizes, and room with evictions off find nothing. A changed release does. */
+static void not_found(void) {
+    speldervacht_settings off = small_settings();
+    open_fresh(SPELDERVACHT_ALONE, growing_settings());
+    for (uint64_t address = 1; address <= ROWS + 1; address++) {
+        expect((step(SPELDERVACHT_INSERT, address, 100).orders != 0) == (address > ROWS), "room for a row");
+    }
+    expect(maximum_after_poor(ROWS + 1) == 4096, "rows pressed, and bytes did not");
+    for (uint64_t size = 10; size <= 5000; size += 4990) {
+        open_fresh(SPELDERVACHT_ALONE, growing_settings());
+        misses(EPOCH - POOR - 1);
+        step(SPELDERVACHT_PROTECT_FOR_WRITING, 100, 10);
+        step(SPELDERVACHT_RESIZE, 100, 5000);
+        step(SPELDERVACHT_RESIZE, 100, 10);
+        expect(table[EXCEEDED] == 0, "a resize makes no room");
+        step(SPELDERVACHT_RELEASE_CHANGED, 100, size);
+        step(SPELDERVACHT_INSERT, 200, 10);
+        expect(maximum_after(200, POOR) == (size == 10 ? 4096 : 8192), "a release that finds nothing, or 5,000 bytes");
+    }
+    off.evictions = 0;
+    open_fresh(SPELDERVACHT_ALONE, off);
+    expect(step(SPELDERVACHT_INSERT, 100, 5000).number == SPELDERVACHT_ACCEPTED && table[EXCEEDED] == 0,
+           "with evictions off no room is made");
+}
+
+/* A record of 3,000 bytes that is pinned. */
+static void insert_pinned(void) {
+    step(SPELDERVACHT_PROTECT_FOR_READING, 100, 3000);
+    step(SPELDERVACHT_PIN, 100, 0);
+    step(SPELDERVACHT_RELEASE_UNCHANGED, 100, 0);
+}
+
+/* Configuring clears what was found. The room that it makes after that counts. */
+static void cleared_by_configure(void) {
+    speldervacht_settings settings = growing_settings();
+    open_fresh(SPELDERVACHT_ALONE, settings);
+    step(SPELDERVACHT_INSERT, 100, 5000);
+    step(SPELDERVACHT_DISCARD, 100, 0);
+    step(SPELDERVACHT_INSERT, 200, 10);
+    expect(table[EXCEEDED] == 1 && configure(settings) == SPELDERVACHT_ACCEPTED, "5,000 bytes, and a configure");
+    expect(table[EXCEEDED] == 0 && maximum_after_poor(200) == 4096, "cleared by a configure");
+    open_fresh(SPELDERVACHT_ALONE, settings);
+    insert_pinned();
+    settings.initial = 2048;
+    expect(configure(settings) == SPELDERVACHT_ACCEPTED && table[EXCEEDED] == 1, "3,000 bytes are found");
+    step(SPELDERVACHT_RESIZE, 100, 10);
+    expect(maximum_after_poor(100) == 4096, "found by the configure's own room");
+}
+
+/* So does the room at the end of an epoch, which has lowered the maximum. */
+static void found_at_the_end(void) {
+    speldervacht_settings settings = growing_settings();
+    settings.decrease_kind = SPELDERVACHT_DECREASE_BY_THRESHOLD;
+    settings.decrease_upper = 0.95;
+    settings.decrease_multiplier = 0.5;
+    settings.decrement_kind = SPELDERVACHT_NO_CAP;
+    open_fresh(SPELDERVACHT_ALONE, settings);
+    insert_pinned();
+    hits(100, EPOCH - 2);
+    step(SPELDERVACHT_PROTECT_FOR_WRITING, 100, 1);
+    expect(speldervacht_report(table, TABLE).maximum == 2048 && table[EXCEEDED] == 1, "3,000 bytes are found");
+    step(SPELDERVACHT_RESIZE, 100, 10);
+    step(SPELDERVACHT_RELEASE_UNCHANGED, 100, 0);
+    expect(maximum_after_poor(100) == 4096, "found by the room at the end of the epoch before");
+}
+
+/* A flash that raises the maximum clears what was found; one that does not, does not. */
+static void cleared_by_flash(void) {
+    speldervacht_settings settings = growing_settings();
+    settings.flash_kind = SPELDERVACHT_FLASH_ON;
+    for (int rises = 0; rises <= 1; rises++) {
+        open_fresh(SPELDERVACHT_ALONE, settings);
+        for (uint64_t address = 1; address <= 5; address++) {
+            step(SPELDERVACHT_INSERT, address, 1000);
+        }
+        expect(table[EXCEEDED] == 1 && speldervacht_report(table, TABLE).maximum == 4096, "5,000 bytes are found");
+        for (uint64_t address = 2; address <= 4 && !rises; address++) {
+            step(SPELDERVACHT_DISCARD, address, 0);
+        }
+        step(SPELDERVACHT_INSERT, 6, 1025);
+        expect(speldervacht_report(table, TABLE).maximum == (rises ? 5025 : 4096), "a flash, and free space enough");
+        expect(maximum_after_poor(6) == (rises ? 5025 : 8192), "cleared by a flash that raised the maximum");
+    }
+}
+
+/* The word is 0 or 1, whatever else the cache is. With another number the table is refused. */
+static void damaged_flag(uint64_t mode, uint64_t evictions) {
+    const uint64_t damaged[] = {2, 3, UINT64_C(1) << 32, UINT64_C(1) << 63, UINT64_MAX - 1, UINT64_MAX};
+    const uint64_t insert[] = {SPELDERVACHT_INSERT, 200, 10}, discard[] = {SPELDERVACHT_DISCARD, 900, 0};
+    uint64_t answer[2];
+    speldervacht_batched batched;
+    open_sharing(mode, evictions);
+    step(SPELDERVACHT_INSERT, 100, 10);
+    for (uint64_t flag = 0; flag <= 1; flag++) {
+        table[EXCEEDED] = flag;
+        expect(speldervacht_report(table, TABLE).held == 10, "a report with either flag");
+        expect(step(SPELDERVACHT_DISCARD, 900, 0).number == SPELDERVACHT_ACCEPTED, "a request with either flag");
+        batched = speldervacht_batch(table, TABLE, orders, ORDERS, discard, 3, answer, 2);
+        expect(batched.number == SPELDERVACHT_ACCEPTED && batched.done == 1, "a batch with either flag");
+        expect(table[EXCEEDED] == flag, "these leave it");
+    }
+    for (size_t i = 0; i < sizeof damaged / sizeof damaged[0]; i++) {
+        uint64_t table_before[TABLE], orders_before[ORDERS];
+        table[EXCEEDED] = damaged[i];
+        for (uint64_t kind = 0; kind <= SPELDERVACHT_CONFIGURE + 1; kind++) {
+            expect(step(kind, 100, 10).number == SPELDERVACHT_BAD_TABLE, "a request with a damaged flag");
+        }
+        expect(is_refused(speldervacht_report(table, TABLE)), "its report");
+        memcpy(table_before, table, sizeof table);
+        memcpy(orders_before, orders, sizeof orders);
+        answer[0] = answer[1] = 7;
+        batched = speldervacht_batch(table, TABLE, orders, ORDERS, insert, 3, answer, 2);
+        expect(batched.number == SPELDERVACHT_BAD_TABLE && batched.done == 0 && batched.orders == 0, "its batch");
+        expect(memcmp(table_before, table, sizeof table) == 0 && memcmp(orders_before, orders, sizeof orders) == 0 &&
+                   answer[0] == 7 && answer[1] == 7,
+               "which changes no word");
+    }
+}
+
+static void damaged_flags(void) {
+    for (uint64_t mode = SPELDERVACHT_ALONE; mode <= SPELDERVACHT_STANDBY; mode++) {
+        damaged_flag(mode, 1);
+        damaged_flag(mode, 0);
+    }
+}
+
 int main(void) {
     three_inserts();
     refusals();
@@ -322,5 +592,15 @@ int main(void) {
     missing_in_each_mode();
     sync_by_missing();
     figure_words();
+    nearly_full(EPOCH);
+    nearly_full(EPOCH - POOR);
+    found_by_insert();
+    at_the_maximum();
+    nothing_to_evict();
+    not_found();
+    cleared_by_configure();
+    found_at_the_end();
+    cleared_by_flash();
+    damaged_flags();
     return outcome("all cases hold");
 }

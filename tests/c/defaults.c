@@ -14,7 +14,7 @@
 
 /* Where the threshold and the settings stand in a table. */
 #define THRESHOLD 3
-#define SETTINGS 9
+#define SETTINGS 10
 #define SETTINGS_WORDS 21
 
 #define STRUCT_WORDS (sizeof(speldervacht_settings) / sizeof(uint64_t))

@@ -11,6 +11,7 @@
 #define ROWS 8
 #define TABLE SPELDERVACHT_TABLE_WORDS(ROWS)
 #define ORDERS SPELDERVACHT_ORDER_WORDS(ROWS)
+#define FIRST_ROW 31 /* where a table has its rows */
 
 /* ---- the page's C: a pair with two rows each, and a write that can be made to fail */
 
@@ -252,8 +253,9 @@ static unsigned before_insert, before_enough, before_too_little, with_nothing_di
 /* The dirty records of the recency list. */
 static unsigned dirty_listed(void) {
     unsigned count = 0;
-    for (size_t place = 30 + 6 * ROWS; place < 30 + 7 * ROWS && table[place] != UINT64_MAX; place++) {
-        count += table[30 + 6 * table[place] + 2] != 0;
+    const size_t run = FIRST_ROW + 6 * ROWS;
+    for (size_t place = run; place < run + ROWS && table[place] != UINT64_MAX; place++) {
+        count += table[FIRST_ROW + 6 * table[place] + 2] != 0;
     }
     return count;
 }
@@ -368,7 +370,7 @@ static void change_memory(uint64_t kind, uint64_t address) {
 static void expect_memory(void) {
     uint64_t there = 0;
     for (uint64_t row = 0; row < ROWS; row++) {
-        const uint64_t *words_of_row = batching.table + 30 + 6 * row;
+        const uint64_t *words_of_row = batching.table + FIRST_ROW + 6 * row;
         expect(words_of_row[1] == 0 || in_memory[words_of_row[0]], "memory has what the table has");
         there += words_of_row[1] != 0;
     }

@@ -16,8 +16,10 @@
 #define ORDERS SPELDERVACHT_ORDER_WORDS(ROWS)
 #define MODES 3
 #define NEXT 8                 /* where a table has the number of the next message */
+#define SETTINGS 10            /* where it has the settings */
 #define LAST_LISTED UINT64_MAX /* the last number of a list */
-#define OLD_VERSION UINT64_C(0x53504c4456540001)
+#define LAYOUT 3
+#define VERSION_OF(layout) (UINT64_C(0x53504c4456540000) + (layout))
 #define RANDOM_MESSAGES 100000
 
 static uint64_t table[TABLE], orders[ORDERS];
@@ -311,7 +313,7 @@ static void batch_without_number(void) {
            "the last number, none, and an insert");
 }
 
-/* ---- tables of the layout numbered 1, which has no word for the number */
+/* ---- tables of the layouts numbered 1 and 2: their settings stand where the number does, and one word further */
 
 static void expect_old(uint64_t *old, size_t words) {
     const uint64_t request[] = {SPELDERVACHT_DISCARD, 1, 0};
@@ -328,17 +330,21 @@ static void expect_old(uint64_t *old, size_t words) {
 
 static void old_tables(void) {
     for (uint64_t mode = 0; mode < MODES; mode++) {
-        uint64_t old[TABLE];
-        open_with_two(mode);
-        memcpy(old, table, NEXT * sizeof old[0]);
-        memcpy(old + NEXT, table + NEXT + 1, (TABLE - NEXT - 1) * sizeof old[0]);
-        old[0] = OLD_VERSION;
-        old[TABLE - 1] = UINT64_MAX;
-        read_message(FIRST);
-        expect_old(old, 29 + 8 * ROWS);
-        expect_old(old, TABLE);
-        table[0] = OLD_VERSION;
-        expect_old(table, TABLE);
+        for (uint64_t layout = 1; layout < LAYOUT; layout++) {
+            const size_t settings = NEXT + layout - 1;
+            uint64_t old[TABLE];
+            open_with_two(mode);
+            expect(table[0] == VERSION_OF(LAYOUT), "the layout's number");
+            memset(old, 0xff, sizeof old);
+            memcpy(old, table, settings * sizeof old[0]);
+            memcpy(old + settings, table + SETTINGS, (TABLE - SETTINGS) * sizeof old[0]);
+            old[0] = VERSION_OF(layout);
+            read_message(FIRST);
+            expect_old(old, settings + 21 + 8 * ROWS);
+            expect_old(old, TABLE);
+            table[0] = VERSION_OF(layout);
+            expect_old(table, TABLE);
+        }
     }
 }
 

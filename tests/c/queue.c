@@ -12,6 +12,7 @@
 #define RUNS 200
 #define TURNS 300
 #define THRESHOLD 1000
+#define FIRST_ROW 31 /* where a table has its rows */
 
 typedef struct side {
     uint64_t table[SPELDERVACHT_TABLE_WORDS(STANDBY_ROWS)];
@@ -139,7 +140,7 @@ static void lead_turn(uint64_t turn) {
 /* Whether a record that is dirty at the one is dirty at the other, at the same size. */
 static int dirty_at(const side *at, uint64_t address, uint64_t size) {
     for (uint64_t row = 0; row < at->rows; row++) {
-        const uint64_t *words = at->table + 30 + 6 * row;
+        const uint64_t *words = at->table + FIRST_ROW + 6 * row;
         if (words[0] == address && words[1] == size && words[2] == 1) {
             return 1;
         }
@@ -152,7 +153,7 @@ static void expect_agreement(void) {
     expect(first.dirty == second.dirty && first.count == second.count && first.due == second.due, "the figures");
     expect(first.next == second.next, "the next number");
     for (uint64_t row = 0; row < lead.rows; row++) {
-        const uint64_t *words = lead.table + 30 + 6 * row;
+        const uint64_t *words = lead.table + FIRST_ROW + 6 * row;
         expect(words[2] == 0 || dirty_at(&standby, words[0], words[1]), "the lead's dirty records");
     }
 }

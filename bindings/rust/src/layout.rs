@@ -10,7 +10,7 @@ pub(crate) const THRESHOLD: usize = 3;
 /// Word 8: the number of the next message.
 pub(crate) const NEXT: usize = 8;
 /// The words before the first row.
-pub(crate) const HEADER_WORDS: usize = 30;
+pub(crate) const HEADER_WORDS: usize = 31;
 
 /// The words of a row, and what stands at each.
 pub(crate) const ROW_WORDS: usize = 6;

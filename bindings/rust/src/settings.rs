@@ -7,6 +7,35 @@ use crate::raw;
 pub enum Increase {
     Off,
     /// A hit rate below `lower` in a full cache multiplies the maximum.
+    ///
+    /// The cache is full if held bytes reach the maximum, or if since the counters of accesses and hits last
+    /// restarted making room found held plus incoming bytes above the maximum, whether or not anything could
+    /// be evicted. They restart at an epoch's end, at a configure and when a flash raises the maximum; room
+    /// that the same request makes after that counts again.
+    ///
+    /// ```
+    /// use speldervacht::{Cache, Increase, Settings};
+    ///
+    /// let settings = Settings {
+    ///     clean_fraction: 0.0,
+    ///     maximum_size: 16_384,
+    ///     epoch_length: 100,
+    ///     increase: Increase::Threshold { lower: 0.9, multiplier: 2.0 },
+    ///     ..Settings::fixed(4_096)
+    /// };
+    /// let mut cache = Cache::builder().rows(4).settings(settings).open()?;
+    ///
+    /// // Each record is new, and three fit: the held bytes never reach the maximum. Room for the fourth
+    /// // is found lacking, so the cache is full when the epoch ends without a hit.
+    /// for address in 1..=100 {
+    ///     assert_eq!(cache.report()?.maximum, 4_096);
+    ///     cache.protect_for_reading(address, 1_325)?;
+    ///     cache.release(address)?;
+    ///     assert!(cache.report()?.held < 4_096);
+    /// }
+    /// assert_eq!(cache.report()?.maximum, 8_192);
+    /// # Ok::<(), speldervacht::Refusal>(())
+    /// ```
     Threshold {
         /// In [0, 1], and below the `upper` of the decrease rule if that has one; else setting 8 is bad.
         lower: f64,

@@ -12,7 +12,7 @@ fn the_defaults_are_the_constructors() {
     let proved: Vec<u64> = text.lines().map(|line| line.parse().unwrap()).collect();
     let mut table = vec![0; table_words(1)];
     open(&mut table, 1, Mode::Alone, DEFAULT_THRESHOLD, &Settings::default()).unwrap();
-    // The threshold is word 3 of a table, the settings are words 9 to 29.
+    // The threshold is word 3 of a table, the settings are words 10 to 30.
     assert_eq!(table[3], proved[0]);
-    assert_eq!(table[9..30], proved[1..]);
+    assert_eq!(table[10..31], proved[1..]);
 }

@@ -20,8 +20,9 @@ const F: [u8; 30] = [
     0, 0,
 ];
 
-/// Where the number of the next message stands in a table.
+/// Where the number of the next message stands in a table, and where the settings do.
 const NEXT: usize = 8;
+const SETTINGS: usize = 10;
 
 /// A cache of 4 rows in which 100 and 200 are dirty.
 fn opened(mode: Mode) -> Cache {
@@ -233,15 +234,22 @@ fn any_next_number_is_a_cache() {
     }
 }
 
-/// Layout 1 has one word less before the rows.
+/// Layout 2 has one word less before the settings, layout 1 has two less.
 #[test]
-fn a_table_of_the_layout_before_is_refused() {
-    let mut words = opened(Mode::Lead).as_words().to_vec();
-    words[0] -= 1;
-    assert_eq!(Cache::from_words(words.clone()), Err(Refusal::BadTable));
-    words.remove(NEXT);
-    assert_eq!(words.len(), 29 + 8 * 4);
-    assert_eq!(Cache::from_words(words), Err(Refusal::BadTable));
+fn a_table_of_a_layout_before_is_refused() {
+    for mode in [Mode::Alone, Mode::Lead, Mode::Standby] {
+        for layout in [1, 2] {
+            let mut words = opened(mode).as_words().to_vec();
+            assert_eq!(words[0], 0x5350_4c44_5654_0003);
+            words[0] = 0x5350_4c44_5654_0000 + layout;
+            assert_eq!(Cache::from_words(words.clone()), Err(Refusal::BadTable), "{mode:?}, layout {layout}");
+            words.drain(NEXT + layout as usize - 1..SETTINGS);
+            assert_eq!(words.len(), 28 + layout as usize + 8 * 4);
+            assert_eq!(Cache::from_words(words.clone()), Err(Refusal::BadTable), "{mode:?}, layout {layout}");
+            words.resize(table_words(4), u64::MAX);
+            assert_eq!(Cache::from_words(words), Err(Refusal::BadTable), "{mode:?}, layout {layout}");
+        }
+    }
 }
 
 #[test]

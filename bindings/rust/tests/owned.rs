@@ -94,7 +94,7 @@ fn fields(entry: Entry) -> Fields {
 
 /// A row as docs/LAYOUT.md has it. A free one has size 0.
 fn row(words: &[u64], row: usize) -> Fields {
-    let row = &words[30 + 6 * row..36 + 6 * row];
+    let row = &words[31 + 6 * row..37 + 6 * row];
     let hold = match row[5] {
         0 => None,
         65_536 => Some(Hold::Writer),
@@ -116,7 +116,7 @@ fn views_agree(cache: &Cache) {
         assert_eq!(cache.get(address).map(fields), by_address.iter().find(|row| row.0 == address).copied());
     }
     assert_eq!(cache.next_number(), words[8]);
-    let run = words[30 + 6 * ROWS..30 + 7 * ROWS].iter().take_while(|row| **row != u64::MAX);
+    let run = words[31 + 6 * ROWS..31 + 7 * ROWS].iter().take_while(|row| **row != u64::MAX);
     assert!(cache.recency().map(fields).eq(run.map(|r| row(words, *r as usize))));
 }
 
@@ -176,8 +176,8 @@ fn damaged_words_make_no_cache() {
     let mut cache = Cache::builder().rows(2).settings(settings()).open().unwrap();
     cache.insert(100, 300).unwrap();
     let words = cache.as_words();
-    // A bit of the layout's number, of the row count, of an idle count and of a run.
-    for (word, bit) in [(0, 0), (1, 1), (33, 5), (42, 0), (45, 63)] {
+    // A bit of the layout's number, of the row count, of what is 0 or 1, of an idle count and of a run.
+    for (word, bit) in [(0, 0), (1, 1), (9, 1), (9, 63), (34, 5), (43, 0), (46, 63)] {
         let mut damaged = words.to_vec();
         damaged[word] ^= 1 << bit;
         assert_eq!(Cache::from_words(damaged.clone()), Err(Refusal::BadTable), "word {word}");

@@ -357,14 +357,14 @@ fn short_slices_are_refused() {
     let rows = 4;
     let settings = small();
     let mut table = vec![7; table_words(rows)];
-    for words in [0, 1, 29, table_words(rows) - 1] {
+    for words in [0, 1, 30, table_words(rows) - 1] {
         assert_eq!(open(&mut table[..words], rows, Mode::Alone, 1, &settings), Err(Refusal::BadTable));
     }
     assert!(table.iter().all(|word| *word == 7));
     assert_eq!(report(&table), Err(Refusal::BadTable));
     assert_eq!(report(&[]), Err(Refusal::BadTable));
     open(&mut table, rows, Mode::Alone, 1, &settings).unwrap();
-    for words in [0, 1, 29, table_words(rows) - 1] {
+    for words in [0, 1, 30, table_words(rows) - 1] {
         assert_eq!(report(&table[..words]), Err(Refusal::BadTable));
         assert_eq!(step(&mut table[..words], &mut [], &Request::Flush).unwrap_err(), Refusal::BadTable);
     }
