@@ -87,9 +87,11 @@ impl<'a> Difference<'a> {
     /// What may differ, and does: name, lead, standby.
     fn information(&self) -> Vec<(&'static str, String, String)> {
         let (a, b) = (&self.lead, &self.standby);
+        let exceeded = |side: &Side| yes_or_no(side.table.header(Header::Exceeded)).to_string();
         let mut lines = vec![
             ("rows", thousands(a.table.rows as u64), thousands(b.table.rows as u64)),
             ("maximum", thousands(a.report.maximum), thousands(b.report.maximum)),
+            ("maximum exceeded", exceeded(a), exceeded(b)),
             ("entries", thousands(a.report.entries), thousands(b.report.entries)),
             ("held bytes", thousands(a.report.held), thousands(b.report.held)),
             ("missing clean bytes", thousands(a.report.missing_clean), thousands(b.report.missing_clean)),

@@ -8,7 +8,7 @@ use std::ffi::OsStr;
 use std::fs::File;
 use std::io::{self, Read};
 
-/// More than this is not read. A table takes 262,384 bytes at most.
+/// More than this is not read. A table takes 262,392 bytes at most.
 const MOST_BYTES: u64 = 64 << 20;
 /// The file name that stands for standard input.
 pub const STANDARD_INPUT: &str = "-";

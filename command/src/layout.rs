@@ -4,7 +4,7 @@
 //! name in text. The places follow from the order of the lines.
 
 /// The letters SPLDVT, and the layout's number in the last two bytes.
-pub const VERSION: u64 = 0x5350_4c44_5654_0002;
+pub const VERSION: u64 = 0x5350_4c44_5654_0003;
 /// What ends a run.
 pub const ALL_ONES: u64 = u64::MAX;
 
@@ -37,6 +37,7 @@ words! {
         Hits: "hits of this epoch",
         Count: "byte count",
         Next: "number of the next message",
+        Exceeded: "whether the maximum was exceeded",
     }
 }
 

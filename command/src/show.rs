@@ -67,6 +67,15 @@ fn next_message(number: u64) -> String {
     }
 }
 
+/// Whether making room found held plus incoming bytes above the maximum.
+fn exceeded(word: u64) -> String {
+    match word {
+        0 => "no, not since the counters restarted".to_string(),
+        1 => "yes, room was lacking at least once since the counters restarted".to_string(),
+        other => format!("unknown ({other})"),
+    }
+}
+
 pub fn yes_or_no(word: u64) -> &'static str {
     match word {
         0 => "no",
@@ -96,6 +105,7 @@ fn header(table: &Table, words: usize, out: &mut dyn Write) -> io::Result<()> {
         ("hits of this epoch", number(Header::Hits)),
         ("byte count", format!("{} bytes made dirty since the last list", number(Header::Count))),
         ("next message", next_message(table.header(Header::Next))),
+        ("maximum exceeded", exceeded(table.header(Header::Exceeded))),
     ];
     lines.iter().try_for_each(|(name, value)| writeln!(out, "  {name:<24}{value}"))
 }
@@ -163,6 +173,7 @@ fn json(table: &Table, report: &Option<Report>, given: &Arguments) -> Json {
         ("hits", number(Header::Hits)),
         ("count", number(Header::Count)),
         ("next", number(Header::Next)),
+        ("exceeded", number(Header::Exceeded)),
         ("settings", settings::json(&settings::of(table))),
         ("figures", report.as_ref().map_or(Json::Nothing, figures_json)),
     ];

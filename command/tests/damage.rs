@@ -3,9 +3,10 @@
 
 mod common;
 
-use common::{settings, table, without_initial_size, MODES};
+use common::{exceeded, settings, table, without_initial_size, MODES};
 use speldervacht::report;
 use speldervacht_command::check::{find, status};
+use speldervacht_command::layout::Header;
 use speldervacht_command::{layout, Status};
 
 /// What the damages of a table came to.
@@ -61,6 +62,10 @@ fn one_bit_damages_are_found_and_named() {
             flip_each(&table(mode, &settings, 5), &mut tally);
             flip_each(&without_initial_size(free, &settings), &mut tally);
         }
+        // With room that was lacking.
+        let lacking = exceeded(table(mode, &settings()[1], 6));
+        assert_eq!(lacking[Header::Exceeded.place()], 1);
+        flip_each(&lacking, &mut tally);
         // With words of the host past the end.
         let past = [table(mode, &settings()[0], 6), vec![0; 40], vec![u64::MAX; 40]].concat();
         flip_each(&past, &mut tally);
@@ -100,6 +105,28 @@ fn words_at_the_edges_of_the_limits() {
         }
     }
     assert!(tally.sound > 0 && tally.named_first > 0 && tally.named_besides > 0);
+}
+
+/// 0 and 1 are both sound, beside any other words. All else is damaged, and this word alone is named.
+#[test]
+fn whether_the_maximum_was_exceeded_is_0_or_1() {
+    let place = Header::Exceeded.place();
+    for mode in MODES {
+        for settings in settings() {
+            let mut words = table(mode, &settings, 6);
+            for flag in [0, 1] {
+                words[place] = flag;
+                assert!(report(&words).is_ok() && find(&words).is_none(), "{mode:?}, {settings:?}, {flag}");
+            }
+            for damaged in (1..64).map(|bit| 1 << bit).chain([3, u64::MAX]) {
+                words[place] = damaged;
+                let finding = find(&words).unwrap_or_else(|| panic!("{damaged} is sound"));
+                assert!(report(&words).is_err());
+                assert_eq!(finding.places(), [place]);
+                assert_eq!(finding.rule, "the word is 0 or 1: whether the maximum was exceeded");
+            }
+        }
+    }
 }
 
 #[test]

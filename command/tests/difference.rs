@@ -119,6 +119,21 @@ fn a_next_number_with_one_bit_different() {
     }
 }
 
+/// Each makes room by itself, so one of them may have found it lacking.
+#[test]
+fn a_maximum_exceeded_at_one() {
+    let mut pair = Pair::new();
+    for address in 900..904 {
+        at(&mut pair.standby, Request::ProtectForReading { address, size: 512 << 10 });
+        at(&mut pair.standby, Request::ReleaseUnchanged { address });
+    }
+    let exceeded = [&pair.lead, &pair.standby].map(|table| table[Header::Exceeded.place()]);
+    assert_eq!(exceeded, [0, 1]);
+    let (status, text) = pair.diff("exceeded");
+    assert_eq!((status, told(&text)), (0, vec![]));
+    assert!(text.contains("may differ: maximum exceeded: lead no; standby yes"), "{text}");
+}
+
 #[test]
 fn a_count_and_due() {
     let mut pair = Pair::new();

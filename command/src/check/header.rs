@@ -15,6 +15,7 @@ pub fn alone(table: &Table) -> Option<Finding> {
             format!("the dirty-byte threshold is 1 to {}", thousands(LARGEST_THRESHOLD)),
         ),
         (Header::Count, 0..=COUNT_STOP, format!("the byte count is at most {}", thousands(COUNT_STOP))),
+        (Header::Exceeded, 0..=1, format!("the word is 0 or 1: {}", Header::Exceeded.name())),
     ];
     let (word, _, rule) = limits.into_iter().find(|(word, limits, _)| !limits.contains(&table.header(*word)))?;
     Some(Finding::at(table.words(), word.place(), rule))

@@ -2,6 +2,7 @@
 #![allow(dead_code)]
 
 use speldervacht::{open, order_words, step, table_words, Decrease, Flash, Increase, Message, Mode, Request, Settings};
+use speldervacht_command::layout::Header;
 use speldervacht_command::{run, Failure};
 use std::ffi::OsString;
 use std::path::PathBuf;
@@ -54,6 +55,14 @@ pub fn without_initial_size(mut table: Vec<u64>, settings: &Settings) -> Vec<u64
     let mut orders = vec![0; order_words(table[1] as usize)];
     let settings = Settings { initial_size: None, ..*settings };
     step(&mut table, &mut orders, &Request::Configure { settings }).unwrap();
+    table
+}
+
+/// The table after an insert for which room is lacking.
+pub fn exceeded(mut table: Vec<u64>) -> Vec<u64> {
+    let mut orders = vec![0; order_words(table[1] as usize)];
+    let size = table[Header::Maximum.place()];
+    step(&mut table, &mut orders, &Request::Insert { address: 500, size }).unwrap();
     table
 }
 
