@@ -100,16 +100,16 @@ struct Found {
     difference: Difference,
 }
 
-fn found_run(what: &str, (run, first): (Run, Difference)) -> Found {
+fn found_run(what: String, (run, first): (Run, Difference)) -> Found {
     println!("a difference: {}", first.what);
     let (run, difference) = shortest_run(run, first);
-    Found { title: title(what, run.events.len()), shown: run.to_string(), difference }
+    Found { title: title(&what, run.events.len()), shown: run.to_string(), difference }
 }
 
-fn found_pair(what: &str, (pair, first): (Pair, Difference)) -> Found {
+fn found_pair(what: String, (pair, first): (Pair, Difference)) -> Found {
     println!("a difference: {}", first.what);
     let (pair, difference) = shortest_pair(pair, first);
-    Found { title: title(what, pair.events.len()), shown: pair.to_string(), difference }
+    Found { title: title(&what, pair.events.len()), shown: pair.to_string(), difference }
 }
 
 fn found_writing((writing, first): (Writing, Difference)) -> Found {
@@ -138,11 +138,11 @@ fn play_runs(r: &mut Random, requests: u64, tally: &mut Tally) -> Result<(), Fou
         let number = tally.runs;
         let run_seed = r.word();
         let large = tally.requests >= requests - requests / LARGE_SHARE;
-        let what = format!("run {number}");
+        let what = |tally: &Tally| format!("run {number}, after {} requests,", tally.requests);
         if !large && r.chance(30) {
-            pair::play(run_seed, tally).map_err(|differs| found_pair(&what, *differs))?;
+            pair::play(run_seed, tally).map_err(|differs| found_pair(what(tally), *differs))?;
         } else {
-            run::play(run_seed, large, tally).map_err(|differs| found_run(&what, *differs))?;
+            run::play(run_seed, large, tally).map_err(|differs| found_run(what(tally), *differs))?;
         }
     }
     println!(
@@ -155,10 +155,11 @@ fn play_runs(r: &mut Random, requests: u64, tally: &mut Tally) -> Result<(), Fou
 /// Damaged messages, lists written, and messages read back, as many as befit the requests.
 fn play_messages(r: &mut Random, requests: u64, tally: &mut Tally) -> Result<(), Found> {
     let many = |of_all: u64| (of_all as f64 * (requests as f64 / REQUESTS as f64)) as u64;
-    damaged::play(r.word(), many(MESSAGES), tally).map_err(|differs| found_run("a message", *differs))?;
+    damaged::play(r.word(), many(MESSAGES), tally).map_err(|differs| found_run("a message".to_string(), *differs))?;
     println!("{} messages at standbys with few rows", tally.offered);
     writer::play(r.word(), many(WRITINGS), tally).map_err(|differs| found_writing(*differs))?;
-    writer::play_back(r.word(), many(READ_BACK), tally).map_err(|differs| found_run("what was written", *differs))
+    writer::play_back(r.word(), many(READ_BACK), tally)
+        .map_err(|differs| found_run("what was written".to_string(), *differs))
 }
 
 fn argument(at: usize, default: u64) -> Result<u64, String> {

@@ -317,12 +317,27 @@ pub struct Model {
     pub count: u64,
     /// The number of the next message that a lead sends or a standby takes.
     pub next: u64,
+    /// Whether making room found held plus incoming above the maximum since the counters last restarted.
+    pub exceeded: bool,
     pub entries: BTreeMap<u64, Entry>,
     /// Front is the head, back is the tail.
     pub recency: VecDeque<u64>,
     /// How often each place of the rules was reached.
     pub reached: Reached,
 }
+
+/// What a restart of the counters did.
+struct Restart {
+    /// Whether `exceeded` was set before.
+    cleared: bool,
+}
+
+/// The places of a restart: `exceeded` is cleared, the room that follows sets it, and both.
+type RestartPlaces = [Place; 3];
+const FLASH_RESTART: RestartPlaces = [Place::ClearedByFlash, Place::SetAfterFlash, Place::SetAgainAfterFlash];
+const EPOCH_RESTART: RestartPlaces = [Place::ClearedByEpoch, Place::SetAfterEpoch, Place::SetAgainAfterEpoch];
+const CONFIGURE_RESTART: RestartPlaces =
+    [Place::ClearedByConfigure, Place::SetAfterConfigure, Place::SetAgainAfterConfigure];
 
 /// The whole part of a float as a size.
 fn whole(x: f64) -> u64 {
@@ -357,6 +372,7 @@ pub fn open(
         hits: 0,
         count: 0,
         next: FIRST_NUMBER,
+        exceeded: false,
         entries: BTreeMap::new(),
         recency: VecDeque::new(),
         reached: Reached::default(),
@@ -473,11 +489,29 @@ impl Model {
         }
     }
 
+    /// Sets `exceeded` if held plus incoming is above the maximum. Held bytes do not rise while room is made, so it
+    /// is found at the start or never.
+    fn note_exceeded(&mut self, held: u64, incoming: u64, row: bool) {
+        let needed = held + incoming;
+        if !self.exceeded {
+            let mut mark = |place, when| self.reached.mark_when(place, when);
+            mark(Place::ExceededSet, needed > self.maximum);
+            mark(Place::ExceededByOne, needed == self.maximum + 1);
+            mark(Place::ExceededForNothing, needed > self.maximum && incoming == 0);
+            mark(Place::JustFits, needed == self.maximum);
+            mark(Place::RowsAlone, needed <= self.maximum && row && self.entries.len() == self.rows);
+        }
+        self.exceeded |= needed > self.maximum;
+    }
+
     fn make_room(&mut self, incoming: u64, row: bool, orders: &mut Vec<Order>) {
+        let mut held = self.held();
         if !self.settings.evictions {
+            self.reached.mark_when(Place::OffAbove, !self.exceeded && held + incoming > self.maximum);
             return;
         }
-        let mut held = self.held();
+        let (held_before, was_exceeded) = (held, self.exceeded);
+        self.note_exceeded(held, incoming, row);
         while held + incoming > self.maximum || (row && !self.has_free_row()) {
             self.reached.mark(if held + incoming > self.maximum { Place::RoomByBytes } else { Place::RoomByRows });
             let wanted = match self.mode {
@@ -486,6 +520,8 @@ impl Model {
             };
             let Some(a) = wanted else {
                 self.reached.mark(Place::NothingToGive);
+                let set_now = self.exceeded && !was_exceeded;
+                self.reached.mark_when(Place::ExceededNothingToGive, set_now && held == held_before);
                 break;
             };
             let e = self.entries[&a];
@@ -506,12 +542,27 @@ impl Model {
 
     // ---- resizing
 
-    fn restart(&mut self) {
+    fn restart(&mut self) -> Restart {
         self.accesses = 0;
         self.hits = 0;
+        Restart { cleared: std::mem::take(&mut self.exceeded) }
     }
 
-    fn flash(&mut self, x: u64) {
+    /// Counts a restart, after the room that follows it in the same request.
+    fn mark_restart(&mut self, restart: Restart, [cleared, set, set_again]: RestartPlaces) {
+        self.reached.mark_when(cleared, restart.cleared);
+        self.reached.mark_when(set, self.exceeded);
+        self.reached.mark_when(set_again, restart.cleared && self.exceeded);
+    }
+
+    fn mark_flash(&mut self, restart: Option<Restart>) {
+        if let Some(restart) = restart {
+            self.mark_restart(restart, FLASH_RESTART);
+        }
+    }
+
+    /// The restart, if the maximum rose.
+    fn flash(&mut self, x: u64) -> Option<Restart> {
         if let Flash::On { multiple, threshold } = self.settings.flash {
             if x as f64 > threshold * self.maximum as f64 {
                 let free = self.maximum.saturating_sub(self.held());
@@ -524,12 +575,13 @@ impl Model {
                         Place::FlashRise
                     });
                     self.maximum = raised;
-                    self.restart();
-                } else {
-                    self.reached.mark(Place::FlashNoRise);
+                    return Some(self.restart());
                 }
+                self.reached.mark(Place::FlashNoRise);
+                self.reached.mark_when(Place::KeptByFlash, self.exceeded);
             }
         }
+        None
     }
 
     fn count_access(&mut self, hit: bool, orders: &mut Vec<Order>) {
@@ -546,21 +598,51 @@ impl Model {
         }
     }
 
+    /// Full: the maximum was exceeded since the counters last restarted, or held bytes reach it now.
+    fn is_full(&self) -> bool {
+        self.exceeded || self.held() >= self.maximum
+    }
+
+    /// Counts what makes the cache full, or not, at an epoch's end with a rate below the lower one.
+    fn mark_full(&mut self) {
+        let held = self.held();
+        let mut mark = |place, when| self.reached.mark_when(place, when);
+        let reaches = held >= self.maximum;
+        mark(Place::FullByBoth, self.exceeded && reaches);
+        mark(Place::FullByExceeded, self.exceeded && !reaches);
+        mark(Place::FullByHeld, !self.exceeded && reaches);
+        mark(Place::FullByHeldJust, !self.exceeded && held == self.maximum);
+        mark(Place::NotFull, !self.exceeded && !reaches);
+        mark(Place::NotFullByOne, !self.exceeded && held + 1 == self.maximum);
+    }
+
+    /// The maximum rises by the multiplier, within its bounds.
+    fn increase(&mut self, multiplier: f64) {
+        let before = self.maximum;
+        let below_maximum = self.held() < before;
+        let mut n = whole(before as f64 * multiplier).min(self.settings.maximum_size);
+        if let Cap::UpTo(cap) = self.settings.increase_cap {
+            if before + cap < n {
+                n = before + cap;
+                self.reached.mark(Place::IncreaseCapped);
+            }
+        }
+        self.maximum = n;
+        self.reached.mark(if n > before { Place::Increase } else { Place::IncreaseToNothing });
+        self.reached.mark_when(Place::FullByExceededRise, n > before && below_maximum);
+        self.reached.mark_when(Place::FullByHeldRise, n > before && !self.exceeded);
+    }
+
     fn end_epoch(&mut self, orders: &mut Vec<Order>) {
         self.reached.mark(Place::EpochEnd);
         let rate = self.hits as f64 / self.accesses as f64;
         let before = self.maximum;
         if let Increase::Threshold { lower, multiplier } = self.settings.increase {
-            if rate < lower && self.held() >= self.maximum {
-                let mut n = whole(self.maximum as f64 * multiplier).min(self.settings.maximum_size);
-                if let Cap::UpTo(cap) = self.settings.increase_cap {
-                    if before + cap < n {
-                        n = before + cap;
-                        self.reached.mark(Place::IncreaseCapped);
-                    }
+            if rate < lower {
+                self.mark_full();
+                if self.is_full() {
+                    self.increase(multiplier);
                 }
-                self.maximum = n;
-                self.reached.mark(if n > before { Place::Increase } else { Place::IncreaseToNothing });
             }
         }
         if self.maximum == before {
@@ -583,8 +665,9 @@ impl Model {
         for e in self.entries.values_mut() {
             e.idle = (e.idle + 1).min(IDLE_LIMIT);
         }
-        self.restart();
+        let restart = self.restart();
         self.make_room(0, false, orders);
+        self.mark_restart(restart, EPOCH_RESTART);
     }
 
     fn age_out(&mut self, epochs: u64, reserve: f64, orders: &mut Vec<Order>) {
@@ -829,8 +912,7 @@ impl Model {
         let mut orders = Vec::new();
         match *request {
             Request::Insert { address, size } => {
-                self.flash(size);
-                self.make_room(size, true, &mut orders);
+                self.admit(size, &mut orders);
                 self.place(address, Entry { size, dirty: true, idle: 0, pinned: false, hold: Hold::Free, row: 0 });
                 self.move_to_head(address);
                 self.add_to_count(size);
@@ -850,17 +932,14 @@ impl Model {
                         self.reached.mark(Place::ReaderJoins);
                     }
                 } else {
-                    self.flash(size);
-                    self.make_room(size, true, &mut orders);
+                    self.admit(size, &mut orders);
                     orders.push(Order::Load { address, size });
                     self.place(address, Entry { size, dirty: false, idle: 0, pinned: false, hold: fresh_hold, row: 0 });
                 }
                 self.count_access(hit, &mut orders);
             }
             Request::Release { address, changed } => {
-                if let Some(size) = changed {
-                    self.take_size(address, size);
-                }
+                let restart = changed.and_then(|size| self.take_size(address, size));
                 let e = self.entries.get_mut(&address).unwrap();
                 e.hold = match e.hold {
                     Hold::Readers(n) if n > 1 => Hold::Readers(n - 1),
@@ -873,6 +952,7 @@ impl Model {
                     }
                     self.make_room(0, false, &mut orders);
                 }
+                self.mark_flash(restart);
             }
             Request::Pin { address } => self.entries.get_mut(&address).unwrap().pinned = true,
             Request::Unpin { address } => {
@@ -882,7 +962,11 @@ impl Model {
                     self.move_to_head(address);
                 }
             }
-            Request::Resize { address, size } => self.take_size(address, size),
+            Request::Resize { address, size } => {
+                let restart = self.take_size(address, size);
+                self.mark_flash(restart);
+                self.reached.mark_when(Place::ResizeAbove, !self.exceeded && self.held() > self.maximum);
+            }
             Request::Discard { address } => {
                 self.entries.remove(&address);
                 self.unlist(address);
@@ -897,6 +981,7 @@ impl Model {
             }
             Request::Sync => {
                 self.write_until_share_is_met(0, &mut orders);
+                self.reached.mark_when(Place::SyncAbove, !self.exceeded && self.held() > self.maximum);
                 self.count = 0;
                 self.send(&orders);
             }
@@ -912,12 +997,20 @@ impl Model {
                 self.settings = s;
                 self.maximum =
                     if s.initial_is_set { s.initial_size } else { self.maximum.clamp(s.minimum_size, s.maximum_size) };
-                self.restart();
+                let restart = self.restart();
                 self.make_room(0, false, &mut orders);
+                self.mark_restart(restart, CONFIGURE_RESTART);
             }
             Request::Unknown => {}
         }
         Ok(orders)
+    }
+
+    /// The flash, and the room for an entry that comes in.
+    fn admit(&mut self, size: u64, orders: &mut Vec<Order>) {
+        let restart = self.flash(size);
+        self.make_room(size, true, orders);
+        self.mark_flash(restart);
     }
 
     fn place(&mut self, address: u64, entry: Entry) {
@@ -926,14 +1019,15 @@ impl Model {
     }
 
     /// A changed release or a resize: the flash by the growth, the byte count if the entry was clean, the size, dirty.
-    fn take_size(&mut self, address: u64, size: u64) {
+    fn take_size(&mut self, address: u64, size: u64) -> Option<Restart> {
         let before = self.entries[&address];
-        self.flash(size.saturating_sub(before.size));
+        let restart = self.flash(size.saturating_sub(before.size));
         if !before.dirty {
             self.add_to_count(size);
         }
         let e = self.entries.get_mut(&address).unwrap();
         e.size = size;
         e.dirty = true;
+        restart
     }
 }

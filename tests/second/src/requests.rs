@@ -268,11 +268,13 @@ pub struct Phase {
     astray: u64,
 }
 
-const PHASES: [Phase; 7] = [
+const PHASES: [Phase; 8] = [
     // Hits.
     Phase { weights: [0, 2, 45, 25, 66, 6, 2, 3, 2, 1, 1, 1, 1, 0], resident: 99, astray: 1 },
     // Misses.
     Phase { weights: [0, 8, 45, 20, 60, 10, 2, 4, 2, 2, 2, 3, 3, 0], resident: 10, astray: 1 },
+    // Misses, each released: poor rates.
+    Phase { weights: [0, 1, 50, 0, 56, 0, 0, 1, 0, 0, 1, 1, 1, 0], resident: 4, astray: 1 },
     // Changes.
     Phase { weights: [0, 20, 10, 25, 15, 25, 5, 5, 15, 5, 3, 5, 4, 1], resident: 60, astray: 3 },
     // Holds and pins pile up.
@@ -375,11 +377,13 @@ fn address(r: &mut Random, m: &Model, kind: u64, phase: &Phase) -> u64 {
     found.unwrap_or_else(|| new_address(r, m))
 }
 
-/// Now and then: the most bytes, or the most growth, that the flash lets pass or the clean share can spare.
+/// Now and then: the most bytes, or the most growth, that the flash lets pass, the clean share can spare or the
+/// maximum has room for.
 fn most_that_passes(r: &mut Random, m: &Model) -> Option<u64> {
     match (r.below(20), m.settings.flash) {
         (0, Flash::On { threshold, .. }) => Some((threshold * m.maximum as f64) as u64),
         (1, _) => u64::try_from(m.clean_share(0).beyond()).ok().filter(|spare| *spare > 0),
+        (2, _) => m.maximum.checked_sub(m.held()).filter(|free| *free > 0),
         _ => None,
     }
 }
@@ -495,14 +499,40 @@ pub fn state(r: &mut Random, rows: usize, mode: Mode, scale: Scale) -> Model {
         hits,
         count,
         next: messages::some_next(r),
+        exceeded: r.chance(50),
         entries,
         recency: VecDeque::from(listed),
         reached: Reached::default(),
     };
+    if r.chance(25) {
+        near_maximum(r, &mut m);
+    }
     if r.chance(20) {
         share_at_edge(r, &mut m);
     }
     m
+}
+
+/// Held bytes come near the maximum, at the end of an epoch with a poor rate and the increase rule on.
+fn near_maximum(r: &mut Random, m: &mut Model) {
+    let held = m.held();
+    let maximum = match r.below(6) {
+        0 => held,
+        1 => held + 1,
+        2 => held - held / 100,
+        _ => held + held * r.between(1, 5) / 100,
+    };
+    m.maximum = maximum.clamp(SMALLEST_MAXIMUM, SIZE_LIMIT);
+    let s = &mut m.settings;
+    s.minimum_size = s.minimum_size.min(m.maximum);
+    s.maximum_size = s.maximum_size.max(m.maximum * r.between(1, 2)).min(SIZE_LIMIT);
+    s.evictions = true;
+    s.increase = Increase::Threshold { lower: 0.9, multiplier: r.pick(&[1.1, 1.5, 2.0]) };
+    if s.bad_field(false).is_some() {
+        s.decrease = Decrease::Off;
+    }
+    m.accesses = s.epoch_length - 1 - r.below(4);
+    m.hits = r.below(m.accesses / 2);
 }
 
 /// The clean fraction becomes one by which the clean share is just met, or a byte above or below, if there is one.
@@ -522,7 +552,7 @@ fn word_at_edge(r: &mut Random, words: &[u64], rows: usize) -> (usize, u64) {
     let accesses = words[5];
     let [largest, smallest, epoch] = [4, 5, 6].map(|i| words[table::SETTINGS + i]);
     let past = r.below(2);
-    match r.below(14) {
+    match r.below(16) {
         0 => (1, r.pick(&[0, rows as u64 - past, rows as u64 + past, ROW_LIMIT + past])),
         1 => (2, 2 + past),
         2 => (3, r.pick(&[1 - past, THRESHOLD_LIMIT + past])),
@@ -537,16 +567,27 @@ fn word_at_edge(r: &mut Random, words: &[u64], rows: usize) -> (usize, u64) {
         // The version before.
         11 => (0, table::VERSION - past),
         12 => (table::NEXT, messages::some_next(r)),
+        13 => (table::EXCEEDED, 1 - words[table::EXCEEDED].min(1)),
+        14 => (table::EXCEEDED, r.pick(&[2, 3, 1 << 32, 1 << 63, u64::MAX - 1, u64::MAX])),
         _ => (row + 5, READER_LIMIT as u64 + past + r.below(2)),
     }
+}
+
+/// The table in the layout before, without the word for `exceeded`: with its version, or with the present one.
+fn in_layout_before(r: &mut Random, words: &[u64]) -> Vec<(usize, u64)> {
+    let version = table::VERSION - r.below(2);
+    let before = [&[version], &words[1..table::EXCEEDED], &words[table::SETTINGS..]].concat();
+    before.into_iter().enumerate().collect()
 }
 
 /// Damage to a table with so many rows: words and their new values.
 pub fn damage(r: &mut Random, words: &[u64], rows: usize) -> Vec<(usize, u64)> {
     let layout = table::table_words(rows).min(words.len());
     let runs = table::HEADER + rows * table::ROW;
-    if r.chance(30) {
-        return vec![word_at_edge(r, words, rows)];
+    match r.below(100) {
+        0..=29 => return vec![word_at_edge(r, words, rows)],
+        30..=31 => return in_layout_before(r, &words[..layout]),
+        _ => {}
     }
     let many = if r.chance(70) { 1 } else { r.between(2, 12) };
     let mut new: Vec<(usize, u64)> = Vec::new();

@@ -7,7 +7,7 @@ use crate::message;
 use crate::messages::{self, Message};
 use crate::model::{order_words, Mode, Model, ROW_LIMIT, THRESHOLD_LIMIT};
 use crate::random::Random;
-use crate::reached::BatchPlace;
+use crate::reached::{BatchPlace, TablePlace};
 use crate::requests::{self, Phase, Scale};
 use crate::table::{self, table_words};
 use crate::tally::Tally;
@@ -194,7 +194,33 @@ impl Player<'_> {
         let state = requests::state(&mut self.r, rows, mode, self.scale);
         let words = table::picture(&state).into_iter().enumerate().collect();
         self.tally.states += 1;
+        self.count_state(&state);
         self.happen(Event::Put { words })
+    }
+
+    fn count_state(&mut self, m: &Model) {
+        let mut mark = |place, when| self.tally.tables.mark_when(place, when);
+        mark(TablePlace::StateExceeded, m.exceeded);
+        mark(TablePlace::StateExceededFresh, m.exceeded && m.accesses == 0);
+        mark(TablePlace::StateExceededOff, m.exceeded && !m.settings.evictions);
+        mark(TablePlace::StateExceededBelow, m.exceeded && m.held() < m.maximum);
+        mark(TablePlace::StateClear, !m.exceeded);
+        mark(TablePlace::StateClearAbove, !m.exceeded && m.held() > m.maximum);
+    }
+
+    /// Counts damage to the version or to `exceeded` alone, and tables in the layout before.
+    fn count_damage(&mut self, words: &[(usize, u64)]) {
+        let mut mark = |place, when| self.tally.tables.mark_when(place, when);
+        let is_before = words.first() == Some(&(0, table::VERSION - 1));
+        match *words {
+            [(table::EXCEEDED, word)] => {
+                mark(TablePlace::ExceededFlipped, word == 1 - self.cache.table[table::EXCEEDED]);
+                mark(TablePlace::ExceededNoFlag, word > 1);
+                mark(TablePlace::ExceededAllOnes, word == u64::MAX);
+            }
+            [_] => mark(TablePlace::VersionBefore, is_before),
+            _ => mark(TablePlace::LayoutBefore, is_before && words.len() > table::HEADER),
+        }
     }
 
     /// Another next number comes into the table: few are left, or none, or any.
@@ -211,6 +237,7 @@ impl Player<'_> {
         let Some(m) = &self.cache.model else { return Ok(()) };
         let rows = m.rows;
         let words = requests::damage(&mut self.r, &self.cache.table, rows);
+        self.count_damage(&words);
         let mend: Vec<(usize, u64)> = words.iter().map(|(at, _)| (*at, self.cache.table[*at])).collect();
         self.happen(Event::Put { words })?;
         match self.cache.model {

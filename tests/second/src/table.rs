@@ -9,11 +9,12 @@
 //!   6          hits
 //!   7          byte count
 //!   8          number of the next message; 0: none is left
-//!   9 .. 29    settings
-//!   30         rows, 6 words each: address, size, dirty, idle, pinned, hold
-//!   30 + 6 n   recency run: row numbers from the tail to the head, then all ones
-//!   30 + 7 n   address run: row numbers of the entries by rising address, then all ones
-//!   30 + 8 n   the end of the layout
+//!   9          whether the maximum was exceeded since the counters last restarted: 0 or 1
+//!   10 .. 30   settings
+//!   31         rows, 6 words each: address, size, dirty, idle, pinned, hold
+//!   31 + 6 n   recency run: row numbers from the tail to the head, then all ones
+//!   31 + 7 n   address run: row numbers of the entries by rising address, then all ones
+//!   31 + 8 n   the end of the layout
 
 use crate::boundary::mode_of;
 use crate::model::{
@@ -23,10 +24,11 @@ use crate::model::{
 use crate::reached::Reached;
 use std::collections::BTreeMap;
 
-pub const VERSION: u64 = 0x5350_4c44_5654_0002;
+pub const VERSION: u64 = 0x5350_4c44_5654_0003;
 pub const NEXT: usize = 8;
-pub const SETTINGS: usize = 9;
-pub const HEADER: usize = 30;
+pub const EXCEEDED: usize = 9;
+pub const SETTINGS: usize = 10;
+pub const HEADER: usize = 31;
 pub const ROW: usize = 6;
 const WRITER: u64 = READER_LIMIT as u64 + 1;
 
@@ -99,7 +101,7 @@ fn hold_word(h: Hold) -> u64 {
 pub fn picture(m: &Model) -> Vec<u64> {
     let mut w = Vec::with_capacity(table_words(m.rows));
     w.extend([VERSION, m.rows as u64, mode_word(m.mode), m.threshold]);
-    w.extend([m.maximum, m.accesses, m.hits, m.count, m.next]);
+    w.extend([m.maximum, m.accesses, m.hits, m.count, m.next, m.exceeded as u64]);
     w.extend(settings_words(&m.settings));
     w.resize(HEADER + m.rows * ROW, 0);
     for (a, e) in &m.entries {
@@ -192,7 +194,8 @@ pub fn judge(words: &[u64]) -> Option<Model> {
         return None;
     }
     let mode = mode_of(words[2])?;
-    let [threshold, maximum, accesses, hits, count, next] = words[3..SETTINGS] else { return None };
+    let [threshold, maximum, accesses, hits, count, next] = words[3..EXCEEDED] else { return None };
+    let exceeded = flag_of(words[EXCEEDED])?;
     let settings = settings_of(&words[SETTINGS..HEADER])?;
     let header_is_allowed = (1..=THRESHOLD_LIMIT).contains(&threshold)
         && settings.minimum_size <= maximum
@@ -247,6 +250,7 @@ pub fn judge(words: &[u64]) -> Option<Model> {
         hits,
         count,
         next,
+        exceeded,
         entries,
         recency,
         reached: Reached::default(),
@@ -257,8 +261,18 @@ pub fn judge(words: &[u64]) -> Option<Model> {
 
 /// What the word at a place of a table with so many rows is.
 pub fn name_of_word(rows: usize, at: usize) -> String {
-    const HEAD: [&str; SETTINGS] =
-        ["version", "row count", "mode", "threshold", "maximum", "accesses", "hits", "byte count", "next number"];
+    const HEAD: [&str; SETTINGS] = [
+        "version",
+        "row count",
+        "mode",
+        "threshold",
+        "maximum",
+        "accesses",
+        "hits",
+        "byte count",
+        "next number",
+        "exceeded",
+    ];
     const FIELDS: [&str; ROW] = ["address", "size", "dirty", "idle", "pinned", "hold"];
     if at < SETTINGS {
         HEAD[at].to_string()

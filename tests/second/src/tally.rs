@@ -3,7 +3,9 @@
 use crate::boundary::KINDS;
 use crate::library::Answer;
 use crate::messages::{Way, WAYS};
-use crate::reached::{AskReached, BatchReached, MessageReached, MissingReached, PairReached, Reached, WriterReached};
+use crate::reached::{
+    AskReached, BatchReached, MessageReached, MissingReached, PairReached, Reached, TableReached, WriterReached,
+};
 
 /// How many answers there are: 0 is accepted, the others are refusals.
 const NUMBERS: usize = 17;
@@ -33,6 +35,7 @@ pub struct Tally {
     pub offered: u64,
     pub longest_list: u64,
     pub reached: Reached,
+    pub tables: TableReached,
     pub missing: MissingReached,
     pub asked: AskReached,
     pub batches: BatchReached,
@@ -127,6 +130,7 @@ impl Tally {
         line(("any allowed state put into the table", self.states));
         line(("damaged, and still a cache", self.damaged_good));
         line(("damaged, and no cache", self.damaged_bad));
+        self.tables.iter().for_each(line);
         line(("orders", self.orders));
         println!("\nreports");
         line(("reports", self.reports));
@@ -151,7 +155,7 @@ impl Tally {
 
     /// What no run reached.
     pub fn never_reached(&self) -> Vec<String> {
-        let rules = self.reached.iter().chain(self.missing.iter());
+        let rules = self.reached.iter().chain(self.tables.iter()).chain(self.missing.iter());
         let one_cache = rules.chain(self.asked.iter()).chain(self.batches.iter());
         let messages = self.messages.iter().chain(self.writer.iter());
         let places = one_cache.chain(messages).chain(self.pairs.iter());

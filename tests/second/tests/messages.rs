@@ -185,13 +185,11 @@ fn the_last_number() {
 #[test]
 fn the_number_stands_in_word_8() {
     let mut words = picture(&standby());
-    assert_eq!((words[NEXT], words[NEXT + 1], words.len()), (1, 1, 30 + 8 * 4));
+    assert_eq!((words[NEXT], words.len()), (1, 31 + 8 * 4));
     for next in [0, 1, u64::MAX] {
         words[8] = next;
         assert_eq!(judge(&words).unwrap().next, next);
     }
-    words[0] -= 1;
-    assert!(judge(&words).is_none());
 }
 
 #[test]

@@ -8,7 +8,7 @@ use second::model::{
 };
 use second::random::Random;
 use second::requests::{self, Scale};
-use second::table::{judge, picture, table_words};
+use second::table::{judge, picture, table_words, EXCEEDED, SETTINGS, VERSION};
 
 fn small_settings() -> Settings {
     Settings {
@@ -262,6 +262,202 @@ fn sync_writes_until_no_byte_is_missing() {
     assert!(written > 5_000, "{written} orders");
 }
 
+/// The small setup with a maximum that doubles at rates below 0.9.
+fn growing_settings() -> Settings {
+    Settings { increase: Increase::Threshold { lower: 0.9, multiplier: 2.0 }, ..small_settings() }
+}
+
+/// With entries of these sizes inserted in turn, at 100, 200 and so on.
+fn with_inserts(rows: u64, settings: Settings, sizes: &[u64]) -> Model {
+    let mut m = open(rows, Mode::Alone, 262_144, settings);
+    for (address, size) in (100..).step_by(100).zip(sizes) {
+        insert(&mut m, address, *size).unwrap();
+    }
+    m
+}
+
+/// An epoch ends with so many hits of 100, the last of them at the address, which stays held.
+fn end_epoch(m: &mut Model, hits: u64, address: u64) {
+    (m.accesses, m.hits) = (99, hits - 1);
+    read(m, address, 1).unwrap();
+    assert_eq!((m.accesses, m.hits), (0, 0));
+}
+
+/// A clean entry is loaded and pinned.
+fn load_pinned(m: &mut Model, address: u64, size: u64) {
+    read(m, address, size).unwrap();
+    step(m, Request::Pin { address }).unwrap();
+    release(m, address).unwrap();
+}
+
+fn held_and_exceeded(m: &Model) -> (u64, bool) {
+    (m.held(), m.exceeded)
+}
+
+#[test]
+fn full_by_exceeding_or_by_held_bytes() {
+    for (third, held, exceeded, maximum) in
+        [(500, 1_500, true, 8_192), (97, 1_097, true, 8_192), (96, 4_096, false, 8_192), (95, 4_095, false, 4_096)]
+    {
+        let mut m = with_inserts(4, growing_settings(), &[3_000, 1_000, third]);
+        assert_eq!(held_and_exceeded(&m), (held, exceeded));
+        end_epoch(&mut m, 89, 200);
+        assert_eq!((m.maximum, m.exceeded), (maximum, false));
+        // Nothing was above the maximum since.
+        end_epoch(&mut m, 89, 200);
+        assert_eq!(m.maximum, maximum);
+    }
+    let mut m = with_inserts(4, growing_settings(), &[3_000, 1_000, 500]);
+    end_epoch(&mut m, 90, 200);
+    assert_eq!((m.maximum, m.exceeded), (4_096, false));
+}
+
+#[test]
+fn exceeded_with_nothing_to_evict() {
+    // With the increase rule on, and with no rule.
+    for mode in MODES {
+        for settings in [growing_settings(), small_settings()] {
+            let mut m = open(4, mode, 262_144, settings);
+            assert_eq!(insert(&mut m, 100, 5_000), Ok(vec![]));
+            assert_eq!(held_and_exceeded(&m), (5_000, true));
+        }
+    }
+    // All pinned, and all dirty.
+    for mode in MODES {
+        let mut m = open(4, mode, 262_144, growing_settings());
+        load_pinned(&mut m, 100, 3_000);
+        assert_eq!(insert(&mut m, 200, 1_097), Ok(vec![]));
+        assert_eq!(held_and_exceeded(&m), (4_097, true));
+    }
+    for mode in [Mode::Lead, Mode::Standby] {
+        let mut m = open(4, mode, 262_144, growing_settings());
+        insert(&mut m, 100, 3_000).unwrap();
+        assert_eq!(insert(&mut m, 200, 1_097), Ok(vec![]));
+        assert_eq!(held_and_exceeded(&m), (4_097, true));
+    }
+}
+
+#[test]
+fn exceeded_is_cleared_and_set_again_at_an_epochs_end() {
+    let settings = Settings { decrease: Decrease::Threshold { upper: 0.95, multiplier: 0.5 }, ..growing_settings() };
+    for exceeded_before in [false, true] {
+        let mut m = open(4, Mode::Alone, 262_144, settings);
+        load_pinned(&mut m, 100, 3_000);
+        read(&mut m, 200, 10).unwrap();
+        if exceeded_before {
+            insert(&mut m, 300, 2_000).unwrap();
+            step(&mut m, Request::Discard { address: 300 }).unwrap();
+        }
+        assert_eq!(held_and_exceeded(&m), (3_010, exceeded_before));
+        end_epoch(&mut m, 100, 200);
+        assert_eq!((m.maximum, m.exceeded), (2_048, true));
+        // In the next epoch no room is made before its end, and held bytes are below the maximum: it grows.
+        step(&mut m, Request::Resize { address: 100, size: 1_000 }).unwrap();
+        end_epoch(&mut m, 89, 200);
+        assert_eq!((m.held(), m.maximum, m.exceeded), (1_010, 4_096, false));
+    }
+}
+
+#[test]
+fn exceeded_is_cleared_by_a_flash_that_rises() {
+    let flash = |multiple| Settings { flash: Flash::On { multiple, threshold: 0.25 }, ..growing_settings() };
+    // The room after it has just enough, or not.
+    for (multiple, size, maximum, exceeded) in [(1.0, 1_025, 5_025, false), (0.5, 1_025, 4_512, true)] {
+        for exceeded_before in [false, true] {
+            let mut m = with_inserts(8, flash(multiple), &[1_000; 4]);
+            m.exceeded = exceeded_before;
+            insert(&mut m, 900, size).unwrap();
+            assert_eq!((m.maximum, m.exceeded), (maximum, exceeded));
+        }
+    }
+    // Without a rise: at the threshold, and at maximum size.
+    let at_maximum_size = Settings { maximum_size: 4_096, ..flash(1.0) };
+    for (settings, size) in [(flash(1.0), 1_024), (at_maximum_size, 1_025)] {
+        let mut m = with_inserts(8, settings, &[1_000, 1_000]);
+        assert!(!m.exceeded);
+        m.exceeded = true;
+        insert(&mut m, 900, size).unwrap();
+        assert_eq!((m.maximum, m.exceeded), (4_096, true));
+    }
+}
+
+#[test]
+fn exceeded_is_cleared_by_configure() {
+    for (initial_size, exceeded) in [(2_999, true), (3_000, false), (4_096, false)] {
+        for exceeded_before in [false, true] {
+            let mut m = open(4, Mode::Alone, 262_144, growing_settings());
+            load_pinned(&mut m, 100, 3_000);
+            m.exceeded = exceeded_before;
+            step(&mut m, Request::Configure(Settings { initial_size, ..growing_settings() })).unwrap();
+            assert_eq!((m.maximum, m.exceeded), (initial_size, exceeded));
+        }
+    }
+}
+
+#[test]
+fn what_does_not_set_exceeded() {
+    // Rows that press alone.
+    let mut m = with_inserts(2, growing_settings(), &[10, 10, 10]);
+    assert_eq!(held_and_exceeded(&m), (20, false));
+    end_epoch(&mut m, 89, 300);
+    assert_eq!(m.maximum, 4_096);
+    // Evictions off.
+    let mut m = with_inserts(4, Settings { evictions: false, ..small_settings() }, &[5_000, 10]);
+    assert_eq!(held_and_exceeded(&m), (5_010, false));
+    read(&mut m, 100, 1).unwrap();
+    release(&mut m, 100).unwrap();
+    assert!(!m.exceeded);
+    // Resize, pin, unpin, sync, flush and a refused insert; a release sets it.
+    let mut m = open(2, Mode::Lead, 262_144, growing_settings());
+    load_pinned(&mut m, 100, 3_000);
+    insert(&mut m, 200, 10).unwrap();
+    for request in [Request::Resize { address: 100, size: 5_000 }, Request::Sync, Request::Flush] {
+        step(&mut m, request).unwrap();
+        assert!(!m.exceeded);
+    }
+    step(&mut m, Request::Protect { writing: true, address: 200, size: 10 }).unwrap();
+    assert_eq!(insert(&mut m, 300, 10), Err(11));
+    step(&mut m, Request::Pin { address: 200 }).unwrap();
+    step(&mut m, Request::Unpin { address: 200 }).unwrap();
+    assert_eq!(held_and_exceeded(&m), (5_010, false));
+    release(&mut m, 200).unwrap();
+    assert_eq!(held_and_exceeded(&m), (5_000, true));
+}
+
+/// 12 entries are 97 percent of 4,096 bytes, and each access misses.
+#[test]
+fn a_world_at_97_percent_grows() {
+    for mode in MODES {
+        let mut m = open(64, mode, 262_144, growing_settings());
+        for access in 0..200 {
+            load(&mut m, access, 331);
+            assert!(m.held() < m.maximum);
+            assert_eq!(m.maximum, [4_096, 8_192, 16_384][(access as usize + 1) / 100]);
+            assert_eq!(m.exceeded, (12..99).contains(&access) || (112..199).contains(&access));
+        }
+    }
+}
+
+#[test]
+fn exceeded_stands_in_word_9() {
+    let mut words = picture(&small());
+    assert_eq!((words[0], words[EXCEEDED], words[SETTINGS], words.len()), (VERSION, 0, 1, 31 + 8 * 4));
+    for (word, exceeded) in [(0, Some(false)), (1, Some(true)), (2, None), (u64::MAX, None), (1 << 32, None)] {
+        words[9] = word;
+        assert_eq!(judge(&words).map(|m| m.exceeded), exceeded);
+    }
+}
+
+/// The layout before had no such word, and the version before.
+#[test]
+fn a_table_in_the_layout_before_is_no_cache() {
+    let words = picture(&small());
+    let before = [&[0x5350_4c44_5654_0002], &words[1..9], &words[10..]].concat();
+    assert!(judge(&before).is_none());
+    assert!(judge(&[&before[..], &[0; 8]].concat()).is_none());
+    assert!(judge(&[&before[..1], &words[1..]].concat()).is_none());
+}
+
 #[test]
 fn an_entry_used_in_one_epoch_goes_at_the_end_of_the_next() {
     let settings = Settings { decrease: Decrease::AgeOut { epochs: 1, reserve: 1.0 }, ..small_settings() };
@@ -294,7 +490,8 @@ fn the_judge_finds_what_was_pictured() {
         let mut words = picture(&state);
         assert_eq!(words.len(), table_words(rows));
         let judged = judge(&words).unwrap();
-        assert_eq!((judged.entries, judged.recency, judged.next), (state.entries, state.recency, state.next));
+        assert_eq!((judged.entries, judged.recency), (state.entries, state.recency));
+        assert_eq!((judged.next, judged.exceeded), (state.next, state.exceeded));
         assert!(judge(&words[..words.len() - 1]).is_none());
         // Damaged words picture nothing, or they are the picture of what they picture.
         for (at, word) in requests::damage(&mut r, &words, rows) {
