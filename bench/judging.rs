@@ -22,11 +22,15 @@ fn proved_judge(table: &[u64]) -> bool {
 
 // ---- the same checks by hand
 
-const HEADER: usize = 30;
-// Where the settings begin; any number may stand before them.
-const SETTINGS: usize = 9;
+const HEADER: usize = 31;
+// The number of the next message, which may be any.
+const NEXT: usize = 8;
+// Whether the maximum was exceeded, 0 or 1.
+const EXCEEDED: usize = 9;
+// Where the settings begin.
+const SETTINGS: usize = 10;
 const WIDTH: usize = 6;
-const VERSION: u64 = 0x5350_4c44_5654_0002;
+const VERSION: u64 = 0x5350_4c44_5654_0003;
 const ONES: u64 = u64::MAX;
 
 fn within(x: f64, low: f64, high: f64) -> bool {
@@ -239,6 +243,9 @@ fn hand_judge(table: &[u64], parts_allowed: impl Fn(&Parts) -> Option<bool>) -> 
     if maximum < settings[5] || settings[4] < maximum || settings[6] <= accesses || accesses < hits || 1 << 40 < bytes {
         return false;
     }
+    if 1 < table[EXCEEDED] {
+        return false;
+    }
     let (words, runs) = table[HEADER..HEADER + rows * (WIDTH + 2)].split_at(rows * WIDTH);
     let (recency, order) = runs.split_at(rows);
     let (rows, _) = words.as_chunks();
@@ -297,7 +304,8 @@ fn settings_words(random: &mut Random) -> [u64; 21] {
 fn table(random: &mut Random, rows: usize, holes: bool) -> Vec<u64> {
     let mut t = vec![0; HEADER];
     t[..8].copy_from_slice(&[VERSION, rows as u64, random.below(3), 262_144, 2_097_152, 40_000, 30_000, 0]);
-    t[8] = random.next();
+    t[NEXT] = random.next();
+    t[EXCEEDED] = random.below(2);
     t[SETTINGS..].copy_from_slice(&settings_words(random));
     let mut entries: Vec<(u64, u64)> = Vec::new();
     let mut recency = Vec::new();
