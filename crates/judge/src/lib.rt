@@ -5,7 +5,8 @@
 // of one cache only.
 //
 //     judge               the header: version, row count, mode and threshold; a table as long as its
-//                         rows ask for; settings, maximum, counters, byte count and the flag beside them
+//                         rows ask for; settings, maximum, counters, byte count, and whether
+//                         the maximum was exceeded
 //     parts_allowed       what comes after the header, in one pass for each part:
 //         mark_rows       the recency run: row numbers, whose rows are marked
 //         rows_allowed    the rows: each free or with an entry, and marked if that is to be listed

@@ -20,7 +20,7 @@ use settings::Settings;
 // The number of a fresh cache's first list.
 const FIRST_NUMBER: u64 = 1;
 
-// No room was made yet.
+// Making room has found nothing yet.
 const NOT_EXCEEDED: u64 = 0;
 
 // Writes v over the n words at `at`.

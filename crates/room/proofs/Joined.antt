@@ -11,7 +11,7 @@ use Rattle.rules.proofs.Moves.{tail-turns, turns-move}
 use Rattle.rules.proofs.Tests.{choose, either, or-false, or-true}
 use Rattle.rules.specs.Refusals.{isAlone}
 use Rattle.rules.specs.Cache.{Cache, Work, start, withExceeded}
-use Rattle.rules.specs.Room.{cleanTurn, evictBy, writeDirty, overfull, roomIn, noticed, makeRoom}
+use Rattle.rules.specs.Room.{cleanTurn, evictBy, writeDirty, roomIn, noticed, makeRoom}
 use Rattle.rules.specs.Rows.{heldBytes}
 use Rattle.settings.specs.declared.Mode.{Mode}
 use Rattle.settings.specs.declared.Mode.the-variants.{Alone, Lead, Standby}

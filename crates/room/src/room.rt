@@ -59,7 +59,7 @@ fn note_exceeded(table: &mut [u64], size: u64, held: u64)
     }
 }
 
-// Room begins with that, and with the held bytes.
+// The beginning of making room: that, and the held bytes.
 fn begin_room(table: &mut [u64], rows: usize, size: u64, known: Held) -> u64
     requires { ⌜ GoodRows (now table) rows × (size ≤ mostSize) × HeldIs known (cacheIn (now table)) ⌝ }
     ensures { λ _. ⌜ Holds (now (table .exit)) (noticed size (start (cacheIn (now (table .entry)))) .cache) (restIn (now (table .entry))) ⌝ }

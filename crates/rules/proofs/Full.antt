@@ -9,8 +9,8 @@ use native.Mathlib.Nat.{le-refl}
 use native.Mathlib.Omega.{arith}
 use lib.Dec.{leb, ltb}
 use lib.Ieee.{Float, eq}
-use borrow.Author.Tests.{ltb-true, lt-ltb, ltb-false, le-ltb}
-use Rattle.fraction.specs.Fraction.{decimal, hitRate}
+use borrow.Author.Tests.{ltb-true, lt-ltb, le-ltb}
+use Rattle.fraction.specs.Fraction.{decimal}
 use Rattle.settings.specs.declared.Decrease.{Decrease}
 use Rattle.settings.specs.declared.Decrease.the-variants as decrease
 use Rattle.settings.specs.declared.Mode.{Mode}
@@ -23,15 +23,15 @@ use Rattle.rules.specs.Addresses.{nearest}
 use Rattle.rules.specs.Allowed.{Sound}
 use Rattle.rules.specs.Cache.{Cache, Work, start, fresh, held, recencyList, touch}
 use Rattle.rules.specs.Entries.{if_then_else_, isHeld, cleaned, protectedFor, released, changedTo}
-use Rattle.rules.specs.Full.{Event, restarted, roomMade, foundSince, fullAfter, makingRoom, flashing, endsEpoch, atEnd, counting, admitting, accessed, accessing, releasing, eventsOf, eventsIn, turnIn}
+use Rattle.rules.specs.Full.{Event, restarted, roomMade, foundSince, fullAfter, makingRoom, flashing, counting, admitting, accessed, accessing, releasing, eventsOf, eventsIn}
 use Rattle.rules.specs.History.{past}
 use Rattle.rules.specs.Hosts.{accepted}
-use Rattle.rules.specs.Refusals.{Call, isAlone}
-use Rattle.rules.specs.Requests.{effect, step, loaded, roomIfReleased, growth, named, configured}
+use Rattle.rules.specs.Refusals.{Call}
+use Rattle.rules.specs.Requests.{effect, loaded, roomIfReleased, growth, named, configured}
 use Rattle.rules.specs.Resizing.{flashed, flashedTo, isAbove, agedAt, expel, evictAged, ageOut, decreasedBy, resized, aged, endEpoch, counts, counted, countAccess, increasedIn, isFull, older}
-use Rattle.rules.specs.Room.{overfull, lacking, shareMissing, lookAtTail, tailTurn, cleanTurn, orStay, turns, evictBy, evict, write, writeInPlace, writeDirty, roomIn, noticed, makeRoom}
+use Rattle.rules.specs.Room.{overfull, lacking, shareMissing, lookAtTail, tailTurn, cleanTurn, orStay, turns, evictBy, evict, write, writeDirty, roomIn, noticed, makeRoom}
 use Rattle.rules.specs.Rows.{get, passes, isHere, cleanAt, dirtyAt}
-use Rattle.rules.specs.Loops.{Reached, here, later}
+use Rattle.rules.specs.Loops.{Reached, here, later, turnIn}
 use Rattle.rules.proofs.Figures.{Figures, moves-figures}
 use Rattle.rules.proofs.Moves.{Moves, done, evicts, writes, tunes, ages, notes, tuned, noted, Turning, tail-turns, clean-turns, moves-sound, sound-remove, sound-write, sound-ages, sound-same}
 use Rattle.rules.proofs.Steps.{stepped}

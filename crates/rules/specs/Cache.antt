@@ -32,7 +32,7 @@ pub record Cache : Type 0 where
   pub count : ℕ
   -- the number of the next list, to be sent or taken; 0 when none is left
   pub next : ℕ
-  -- since the counters last restarted, making room found held plus incoming above the maximum
+  -- since the counters last restarted, making room at least once found held plus incoming above the maximum
   pub exceeded : Bool
 
 -- A fresh cache is empty.
@@ -173,7 +173,7 @@ touch a f c =
     (strike a (c .recency) ++ (if passes (λ e. isListed (f e)) (get (c .rows) a) then a ∷ [] else []))
     c
 
--- Counters restart, and what making room found since is cleared.
+-- Counters restart, and what making room found since they last did is cleared.
 abbrev pub restart : Cache → Cache
 restart c = withExceeded false (withCounters 0 0 c)
 

@@ -2,11 +2,8 @@
 use Prim.Native.Nat.{ℕ, _+_}
 use mathlib.Core.Bool.{Bool, true, false, _&&_, _||_}
 use mathlib.Core.List.{List, [], _∷_}
-use mathlib.Core.Option.{Option}
 use lib.Dec.{leb, ltb}
 use Rattle.fraction.specs.Fraction.{hitRate}
-use Rattle.settings.specs.declared.Mode.{Mode}
-use Rattle.settings.specs.declared.Mode.the-variants.{Alone, Lead, Standby}
 use Rattle.rules.specs.declared.request.Access.{Access}
 use Rattle.rules.specs.declared.request.Request.{Request}
 use Rattle.rules.specs.declared.request.Request.the-variants.{Insert, Protect, Release, ReleaseChanged, Pin, Unpin, Resize, Discard, Flush, Sync, Take, Configure}
@@ -17,7 +14,7 @@ use Rattle.rules.specs.Hosts.{accepted}
 use Rattle.rules.specs.Refusals.{Call}
 use Rattle.rules.specs.Requests.{step, loaded, growth, named, configured}
 use Rattle.rules.specs.Resizing.{flashed, counts, counted, resized, aged}
-use Rattle.rules.specs.Room.{overfull, tailTurn, cleanTurn, makeRoom}
+use Rattle.rules.specs.Room.{overfull, makeRoom}
 use Rattle.rules.specs.Rows.{get, passes, isHere}
 
 pub data Event : Type 0 where
@@ -46,6 +43,7 @@ makingRoom x c earlier = if c .settings .evictions then roomMade x c ∷ earlier
 abbrev pub flashing : ℕ → Cache → List Event → List Event
 flashing x c earlier = if ltb (c .maximum) (flashed x c .maximum) then restarted ∷ earlier else earlier
 
+-- With one access more the epoch ends.
 abbrev pub endsEpoch : Cache → Bool
 endsEpoch c = counts (c .settings) && leb (c .settings .epoch) (c .accesses + 1)
 
@@ -95,11 +93,3 @@ eventsIn c [] = []
 eventsIn c (call ∷ earlier) =
     let d = past c earlier .cache in
     if accepted (step d call) then eventsOf d (call .request) (eventsIn c earlier) else eventsIn c earlier
-
--- ---- the turns of making room
-
--- A turn of step 1, by mode.
-abbrev pub turnIn : Mode → Work → Option Work
-turnIn Alone w = tailTurn w
-turnIn Lead w = cleanTurn w
-turnIn Standby w = cleanTurn w

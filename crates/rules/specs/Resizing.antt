@@ -57,7 +57,8 @@ isAbove rate upper = lt upper rate
 
 -- ---- increase
 
--- The cache is full: since the counters last restarted making room found held plus incoming above the maximum, or held bytes reach it now.
+-- The cache is full: since the counters last restarted, making room at least once found held plus incoming above the maximum, or held bytes
+-- reach the maximum now.
 abbrev pub isFull : Cache → Bool
 isFull c = c .exceeded || leb (c .maximum) (held c)
 

@@ -112,7 +112,7 @@ pub fn set_counters(table: &mut [u64], accesses: u64, hits: u64)
     table[HITS_AT] = hits;
 }
 
-// Counters restart, and what making room found since is cleared.
+// Counters restart, and what making room found since they last did is cleared.
 pub fn restart(table: &mut [u64])
     requires { ⌜ Good (now table) ⌝ }
     ensures { λ _. ⌜ Holds (now (table .exit)) (restart (cacheIn (now (table .entry)))) (restIn (now (table .entry))) ⌝ }
