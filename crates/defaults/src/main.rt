@@ -1,7 +1,8 @@
-// The defaults, a number to a line: the dirty-byte threshold, then the settings' 21 words as they
-// stand in a table.
+// The defaults, a number to a line: the dirty-byte threshold, then for each mode, alone, lead and
+// standby, the settings' 21 words as they stand in a table.
 use entries::default_threshold;
 use libc::STDOUT_FILENO;
+use settings::Mode;
 use settings::Settings;
 use settings_words::words_of;
 
@@ -18,8 +19,14 @@ fn lines(words: &[u64]) {
     }
 }
 
+fn settings_of(mode: Mode) {
+    let words = words_of(Settings::defaults(mode));
+    lines(&words);
+}
+
 fn main() {
     line(default_threshold());
-    let words = words_of(Settings::defaults());
-    lines(&words);
+    settings_of(Mode::Alone);
+    settings_of(Mode::Lead);
+    settings_of(Mode::Standby);
 }

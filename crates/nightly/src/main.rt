@@ -1,6 +1,6 @@
-// A night of the backup host: alone, with the default settings. It goes through the world's records,
-// some of them often, changes every third that it looks at, and flushes at the end. Its orders, one
-// to a line.
+// A night of the backup host: alone, the minimum clean fraction 0.3 named, all else by default. It
+// goes through the world's records, some of them often, changes every third that it looks at, and
+// flushes at the end. Its orders, one to a line.
 use entries::default_threshold;
 use rules::request::Access;
 use rules::request::Request;
@@ -74,13 +74,9 @@ fn main() {
     let mut table = [0u64; TABLE_WORDS];
     let mut orders = [0u64; ORDER_WORDS];
     let none = [0u64; 0];
-    let answer = cache::open(
-        &mut table,
-        ROWS,
-        Mode::Alone,
-        default_threshold(),
-        Settings::defaults(),
-    );
+    let mut s = Settings::defaults(Mode::Alone);
+    s.clean = 0.3;
+    let answer = cache::open(&mut table, ROWS, Mode::Alone, default_threshold(), s);
     print::answer(&none, answer);
     night(&mut table, &mut orders);
 }

@@ -3,22 +3,24 @@ use Prim.Native.Nat.{ℕ}
 use mathlib.Core.Bool.{true, false}
 use mathlib.Core.List.{List, [], _∷_}
 use mathlib.Core.Path.{_≡_, refl}
-use lib.Ieee.{round, le, lt, eq}
+use lib.Ieee.{Float, round, le, lt, eq}
 use Rattle.fraction.specs.Examples.{every}
 use Rattle.fraction.specs.Fraction.{decimal}
-use Rattle.settings.specs.Defaults.{defaults}
+use Rattle.settings.specs.declared.Mode.{Mode}
+use Rattle.settings.specs.Defaults.{defaultClean, defaults}
 use Rattle.settings.specs.Examples.{Case, gives, holds}
 use Rattle.settings.specs.Validation.{firstBad}
 use Rattle.numbers.specs.Meanings.{meaning, increaseOfRaw, capOfRaw, flashOfRaw, decreaseOfRaw, settingsOfRaw}
 use Rattle.numbers.specs.declared.raw.RawSettings.{RawSettings}
 
--- The header's default settings with these flags and kinds: evictions, preset; increase, increment, flash, decrease, decrement.
-unfoldable pub raw : ℕ → ℕ → ℕ → ℕ → ℕ → ℕ → ℕ → RawSettings
-raw evictions preset increase increment flash decrease decrement = record {
+-- The header's default settings with a clean fraction and these flags and kinds: evictions, preset; increase, increment, flash, decrease,
+-- decrement.
+unfoldable pub rawWith : Float → ℕ → ℕ → ℕ → ℕ → ℕ → ℕ → ℕ → RawSettings
+rawWith clean evictions preset increase increment flash decrease decrement = record {
   evictions = evictions;
   preset = preset;
   initial = 2097152;
-  clean = decimal 3 10;
+  clean = clean;
   largest = 33554432;
   smallest = 1048576;
   epoch = 50000;
@@ -35,13 +37,16 @@ raw evictions preset increase increment flash decrease decrement = record {
   decrement = record { kind = decrement; bytes = 1048576 };
 }
 
--- They stand for the default settings.
-pub default-settings : settingsOfRaw (raw 1 1 1 1 1 3 1) ≡ defaults
-unfolding raw settingsOfRaw increaseOfRaw capOfRaw flashOfRaw decreaseOfRaw meaning defaults
-default-settings = refl
+abbrev raw : ℕ → ℕ → ℕ → ℕ → ℕ → ℕ → ℕ → RawSettings
+raw evictions preset increase increment flash decrease decrement = rawWith (decimal 3 10) evictions preset increase increment flash decrease decrement
+
+-- They stand for the default settings of each mode.
+pub default-settings : (m : Mode) → settingsOfRaw (rawWith (defaultClean m) 1 1 1 1 1 3 1) ≡ defaults m
+unfolding rawWith settingsOfRaw increaseOfRaw capOfRaw flashOfRaw decreaseOfRaw meaning defaults
+default-settings m = refl
 
 pub cases : List Case
-unfolding raw
+unfolding rawWith
 cases =
     gives (settingsOfRaw (raw 1 1 1 1 1 3 1)) true 0
     -- a flag is on if it is not 0
@@ -64,5 +69,5 @@ cases =
     ∷ []
 
 pub cases-hold : every holds cases ≡ true
-unfolding cases every holds raw settingsOfRaw increaseOfRaw capOfRaw flashOfRaw decreaseOfRaw meaning firstBad round le lt eq
+unfolding cases every holds rawWith settingsOfRaw increaseOfRaw capOfRaw flashOfRaw decreaseOfRaw meaning firstBad round le lt eq
 cases-hold = refl

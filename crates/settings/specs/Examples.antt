@@ -8,6 +8,7 @@ use lib.IntN.{pos}
 use lib.Ieee.{Float, nan, inf, fin, round, le, lt, eq}
 use Rattle.fraction.specs.Fraction.{decimal}
 use Rattle.fraction.specs.Examples.{every}
+use Rattle.settings.specs.declared.Mode.the-variants.{Alone, Lead, Standby}
 use Rattle.settings.specs.declared.Settings.{Settings}
 use Rattle.settings.specs.declared.Increase.{Increase}
 use Rattle.settings.specs.declared.Increase.the-variants as increase
@@ -66,9 +67,12 @@ withRules evictions i d = sample evictions true zero 16384 1024 i d
 
 pub cases : List Case
 cases =
-    -- the default settings
-    gives defaults false 0
-    ∷ gives defaults true 0
+    -- the default settings of each mode
+    gives (defaults Alone) false 0
+    ∷ gives (defaults Alone) true 0
+    ∷ gives (defaults Lead) false 0
+    ∷ gives (defaults Lead) true 0
+    ∷ gives (defaults Standby) true 0
     -- field 1: evictions off while a rule is on
     ∷ gives (withRules false increase.Off decrease.Off) true 0
     ∷ gives (withRules false (increase.Threshold half two) decrease.Off) true 1

@@ -2,7 +2,7 @@
 //
 // A field's number is its place in the list of document 01, from 1 to 12.
 ghost use mathlib.Core.Path.{_≡_};
-ghost use Rattle.settings.specs.Defaults.{defaults};
+ghost use Rattle.settings.specs.Defaults.{defaultClean, defaults};
 
 mod ranges;
 mod validation;
@@ -85,11 +85,26 @@ pub struct Settings {
     pub decrement: Cap,
 }
 
-// The default settings.
+// The default minimum clean fraction of a mode.
+fn default_clean(mode: Mode) -> f64
+    ensures { λ r. ⌜ r ≡ defaultClean mode ⌝ }
+{
+    match mode {
+        Mode::Alone => Settings::CLEAN_ALONE,
+        Mode::Lead => Settings::CLEAN,
+        Mode::Standby => Settings::CLEAN,
+    }
+}
+
+// The default settings, by mode.
 impl Settings {
     pub const INITIAL: u64 = 2097152;
 
+    // In a lead and a standby.
     pub const CLEAN: f64 = 0.3;
+
+    // Alone.
+    pub const CLEAN_ALONE: f64 = 0.01;
 
     pub const LARGEST: u64 = 33554432;
 
@@ -115,14 +130,14 @@ impl Settings {
 
     pub const RESERVE: f64 = 0.1;
 
-    pub fn defaults() -> Settings
-        ensures { λ r. ⌜ r ≡ defaults ⌝ }
+    pub fn defaults(mode: Mode) -> Settings
+        ensures { λ r. ⌜ r ≡ defaults mode ⌝ }
     {
         Settings {
             evictions: true,
             preset: true,
             initial: Settings::INITIAL,
-            clean: Settings::CLEAN,
+            clean: default_clean(mode),
             largest: Settings::LARGEST,
             smallest: Settings::SMALLEST,
             epoch: Settings::EPOCH,

@@ -6,14 +6,16 @@ use mathlib.Core.List.{List, [], _∷_, _++_}
 use lib.Ieee.{round, toBits, ofBits, le, lt, eq}
 use lib.ListN.{set}
 use Rattle.fraction.specs.Examples.{every}
+use Rattle.settings.specs.declared.Mode.the-variants.{Alone, Lead, Standby}
 use Rattle.settings.specs.Defaults.{defaults}
 use Rattle.settings.specs.Validation.{firstBad}
 use Rattle.settings_words.specs.Words.{settingsWords}
 use Rattle.settings_words.specs.Picture.{settingsOf, picture}
 
-unfoldable pub defaultWords : List ℕ
-defaultWords =
-    1 ∷ 1 ∷ 2097152 ∷ 0x3fd3_3333_3333_3333 ∷ 33554432 ∷ 1048576 ∷ 50000
+-- The default settings' words with the word of a clean fraction.
+unfoldable pub wordsWith : ℕ → List ℕ
+wordsWith clean =
+    1 ∷ 1 ∷ 2097152 ∷ clean ∷ 33554432 ∷ 1048576 ∷ 50000
     -- threshold, 0.9, 2.0; up to 4,194,304
     ∷ 1 ∷ 0x3fec_cccc_cccc_cccd ∷ 0x4000_0000_0000_0000
     ∷ 1 ∷ 4194304
@@ -24,9 +26,21 @@ defaultWords =
     ∷ 1 ∷ 1048576
     ∷ []
 
-pub default-words : settingsWords defaults ≡ defaultWords
-unfolding settingsWords defaults defaultWords round toBits
-default-words = refl
+-- 0.3 in a lead and a standby, 0.01 alone
+unfoldable pub defaultWords : List ℕ
+defaultWords = wordsWith 0x3fd3_3333_3333_3333
+
+pub lead-words : settingsWords (defaults Lead) ≡ defaultWords
+unfolding settingsWords defaults defaultWords wordsWith round toBits
+lead-words = refl
+
+pub standby-words : settingsWords (defaults Standby) ≡ defaultWords
+unfolding settingsWords defaults defaultWords wordsWith round toBits
+standby-words = refl
+
+pub alone-words : settingsWords (defaults Alone) ≡ wordsWith 0x3f84_7ae1_47ae_147b
+unfolding settingsWords defaults wordsWith round toBits
+alone-words = refl
 
 -- words, and whether they are a picture
 pub data Case : Type 0 where
@@ -37,7 +51,7 @@ unfolding picture
 holds (is ws b) = Bool·beq (picture ws) b
 
 pub cases : List Case
-unfolding defaultWords
+unfolding defaultWords wordsWith
 cases =
     is defaultWords true
     ∷ is (defaultWords ++ (7 ∷ [])) true
@@ -58,5 +72,5 @@ cases =
     ∷ []
 
 pub cases-hold : every holds cases ≡ true
-unfolding cases every holds defaultWords firstBad settingsOf settingsWords round toBits ofBits le lt eq
+unfolding cases every holds defaultWords wordsWith firstBad settingsOf settingsWords round toBits ofBits le lt eq
 cases-hold = refl
