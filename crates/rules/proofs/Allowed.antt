@@ -19,7 +19,7 @@ use Rattle.rules.specs.declared.request.Request.{Request}
 use Rattle.rules.specs.declared.request.Request.the-variants.{Insert, Protect, Release, ReleaseChanged, Pin, Unpin, Resize, Discard, Flush, Sync, Take, Configure}
 use Rattle.rules.specs.Allowed.{Sound, Allowed}
 use Rattle.rules.specs.Cache.{Cache, Work, start, fresh, touch, withCounters}
-use Rattle.rules.specs.Cases.{Setup, opened, later, counting, after, cacheOf, isNone, isValid, Case, AllowedSetups, cases, further, full}
+use Rattle.rules.specs.Cases.{Setup, opened, later, counting, after, cacheOf, isNone, isValid, Case, AllowedSetups, cases, further, lone, full}
 use Rattle.rules.specs.Entries.{changedTo, protectedFor, released}
 use Rattle.rules.specs.Limits.{mostRows, mostThreshold}
 use Rattle.rules.specs.Opening.{refusalOfOpening, openingTests}
@@ -189,5 +189,5 @@ each-allowed (x ∷ rest) h =
     let f = both (isValid (x .setup)) (every (λ y. isValid (y .setup)) rest) h in
     (valid-allowed (x .setup) (f .0), each-allowed rest (f .1))
 
-pub cases-allowed : AllowedSetups (cases ++ (further ++ full))
-cases-allowed = each-allowed (cases ++ (further ++ full)) valid
+pub cases-allowed : AllowedSetups (cases ++ (further ++ (lone ++ full)))
+cases-allowed = each-allowed (cases ++ (further ++ (lone ++ full))) valid

@@ -5,9 +5,10 @@ use mathlib.Core.List.{map, _++_}
 use lib.Ieee.{mul, div, sub, lt, le, eq, round, ofInt, toUnsigned}
 use Rattle.fraction.specs.Examples.{every}
 use Rattle.fraction.specs.Fraction.{sizeProduct, hitRate, reserveQuotient, exceedsShare}
+use Rattle.settings.specs.Defaults.{defaults, withClean}
 use Rattle.settings.specs.Validation.{firstBad}
 use Rattle.rules.specs.Addresses.{elem, strike, someAddress, nearest, twice, insertRising}
-use Rattle.rules.specs.Cases.{cases, further, full, missing, exceeding, ran, run, after, reversed, cacheOf, isValid}
+use Rattle.rules.specs.Cases.{cases, further, lone, full, missing, exceeding, ran, run, after, reversed, cacheOf, isValid}
 use Rattle.rules.specs.Messages.{bytesOf, addressFields, messageOf, feed, feedAll, readMessage}
 use Rattle.rules.specs.Opening.{refusalOfOpening}
 use Rattle.rules.specs.Refusals.{firstOf, tests, refusalOf}
@@ -30,12 +31,16 @@ pub worked-further : map ran further ≡ map (λ x. x .gives) further
 unfolding computing cacheOf run after reversed
 worked-further = refl
 
+pub worked-lone : map ran lone ≡ map (λ x. x .gives) lone
+unfolding computing cacheOf run after reversed defaults withClean
+worked-lone = refl
+
 pub worked-full : map ran full ≡ map (λ x. x .gives) full
 unfolding computing cacheOf run after reversed
 worked-full = refl
 
-pub valid : every (λ x. isValid (x .setup)) (cases ++ (further ++ full)) ≡ true
-unfolding computing every isValid cacheOf after
+pub valid : every (λ x. isValid (x .setup)) (cases ++ (further ++ (lone ++ full))) ≡ true
+unfolding computing every isValid cacheOf after defaults withClean
 valid = refl
 
 -- ---- the clean share

@@ -15,6 +15,7 @@ use Rattle.settings.specs.declared.Flash.the-variants as flash
 use Rattle.settings.specs.declared.Increase.{Increase}
 use Rattle.settings.specs.declared.Increase.the-variants as increase
 use Rattle.settings.specs.declared.Settings.{Settings}
+use Rattle.settings.specs.Defaults.{defaults, withClean}
 use Rattle.rules.specs.declared.answer.Refusal.{Refusal}
 use Rattle.rules.specs.declared.order.Kind.{Kind}
 use Rattle.rules.specs.declared.order.Order.{Order}
@@ -603,6 +604,34 @@ further =
         next = 1;
       };
     }
+    ∷ []
+
+-- ---- the default clean fraction of a cache that is alone
+
+-- Two inserts by default settings, the first of three quarters of the maximum: the writes, and the dirty bytes then.
+abbrev pub twoInserts : Settings → List Order → ℕ → Case
+twoInserts s writes dirty = record {
+  setup = alone s;
+  calls = ask (Insert 100 1572864) ∷ ask (Insert 200 100) ∷ [];
+  gives = record {
+    answers = 0 ∷ 0 ∷ [];
+    orders = [] ∷ writes ∷ [];
+    recency = 200 ∷ 100 ∷ [];
+    held = 1572964;
+    dirty = dirty;
+    maximum = 2097152;
+    count = 1572964;
+    due = true;
+    next = 1;
+  };
+}
+
+abbrev pub lone : List Case
+lone =
+    -- 20,971 bytes are to be clean or unused, and more are unused
+    twoInserts (defaults Alone) [] 1572964
+    -- with 0.3 it is 629,145
+    ∷ twoInserts (withClean (decimal 3 10) (defaults Alone)) (order Kind.Write 100 1572864 ∷ []) 100
     ∷ []
 
 -- ---- full
