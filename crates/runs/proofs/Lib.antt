@@ -4,6 +4,7 @@ pub mod Read
 pub mod Hosts
 pub mod History
 pub mod Full
+pub mod Defaults
 pub mod Runs
 pub mod AskedRuns
 pub mod AskedShown

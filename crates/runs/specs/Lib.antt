@@ -1,3 +1,4 @@
 pub mod Hosts
 pub mod AskedRuns
 pub mod History
+pub mod Defaults
