@@ -12,7 +12,7 @@ static uint64_t orders[SPELDERVACHT_ORDER_WORDS(ROWS)];
 
 /* Opens the cache: its maximum stays at 4,096 bytes, and nothing has to be clean. */
 static uint64_t open_cache(void) {
-    speldervacht_settings settings = speldervacht_default_settings();
+    speldervacht_settings settings = speldervacht_default_settings(SPELDERVACHT_ALONE);
     settings.initial = settings.smallest = settings.largest = 4096;
     settings.clean = 0.0;
     settings.increase_kind = SPELDERVACHT_INCREASE_OFF;

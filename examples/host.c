@@ -113,7 +113,7 @@ static void must(uint64_t kind, uint64_t address, uint64_t size) {
 }
 
 static void open_cache(void) {
-    speldervacht_settings settings = speldervacht_default_settings();
+    speldervacht_settings settings = speldervacht_default_settings(SPELDERVACHT_ALONE);
     speldervacht_answer answer;
     settings.initial = settings.smallest = settings.largest = 1900;
     settings.clean = 0.0;

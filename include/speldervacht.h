@@ -104,7 +104,8 @@
  *   speldervacht_answer answer;
  *
  *   answer = speldervacht_open(table, SPELDERVACHT_TABLE_WORDS(64), 64, SPELDERVACHT_ALONE,
- *                              SPELDERVACHT_DEFAULT_THRESHOLD, speldervacht_default_settings());
+ *                              SPELDERVACHT_DEFAULT_THRESHOLD,
+ *                              speldervacht_default_settings(SPELDERVACHT_ALONE));
  *   answer = speldervacht_step(table, SPELDERVACHT_TABLE_WORDS(64),
  *                              orders, SPELDERVACHT_ORDER_WORDS(64), NULL, 0,
  *                              speldervacht_request_of(SPELDERVACHT_INSERT, 100, 3000));
@@ -129,9 +130,9 @@ extern "C" {
 /* ---- version, of the header and the library; a table's version is its layout's and counts apart */
 
 #define SPELDERVACHT_VERSION_MAJOR 0
-#define SPELDERVACHT_VERSION_MINOR 4
+#define SPELDERVACHT_VERSION_MINOR 5
 #define SPELDERVACHT_VERSION_PATCH 0
-#define SPELDERVACHT_VERSION "0.4.0"
+#define SPELDERVACHT_VERSION "0.5.0"
 
 /* ---- sizes and limits */
 
@@ -411,13 +412,14 @@ speldervacht_figures speldervacht_report(const uint64_t *table, size_t table_wor
 speldervacht_written speldervacht_write_message(uint8_t *bytes, size_t byte_count, uint64_t number,
                                                 const uint64_t *list, size_t list_words);
 
-/* The default settings: 2 MiB to begin with, between 1 MiB and 32 MiB, all rules on. */
-static inline speldervacht_settings speldervacht_default_settings(void) {
+/* The default settings of a mode: 2 MiB to begin with, between 1 MiB and 32 MiB, all rules on. The minimum
+ * clean fraction is 0.01 alone and 0.3 for a lead and a standby. A mode that opening refuses gets 0.3. */
+static inline speldervacht_settings speldervacht_default_settings(uint64_t mode) {
     speldervacht_settings settings;
     settings.evictions = 1;
     settings.preset = 1;
     settings.initial = 2097152;
-    settings.clean = 0.3;
+    settings.clean = mode == SPELDERVACHT_ALONE ? 0.01 : 0.3;
     settings.largest = 33554432;
     settings.smallest = 1048576;
     settings.epoch = 50000;
@@ -439,13 +441,11 @@ static inline speldervacht_settings speldervacht_default_settings(void) {
     return settings;
 }
 
-/* A request of any kind but configure. */
+/* A request of any kind but configure. Its settings are all 0; a configure names its own, and is refused with
+ * BAD_SETTING if it does not. */
 static inline speldervacht_request speldervacht_request_of(uint64_t kind, uint64_t address, uint64_t size) {
-    speldervacht_request request;
-    request.kind = kind;
-    request.address = address;
-    request.size = size;
-    request.settings = speldervacht_default_settings();
+    speldervacht_request request = {
+        kind, address, size, {0, 0, 0, 0, 0, 0, 0, 0, 0, 0, 0, 0, 0, 0, 0, 0, 0, 0, 0, 0, 0, 0}};
     return request;
 }
 

@@ -31,7 +31,7 @@ use store::WorldFile;
 const THRESHOLD: u64 = 4_096;
 
 /// The two hosts have caches of different sizes.
-fn rows_and_settings(place: usize) -> (usize, Settings) {
+fn rows_and_settings(place: usize, mode: Mode) -> (usize, Settings) {
     let (rows, initial_size) = [(32, 5_120), (48, 7_168)][place];
     let settings = Settings {
         initial_size: Some(initial_size),
@@ -42,7 +42,7 @@ fn rows_and_settings(place: usize) -> (usize, Settings) {
         increase_cap: None,
         flash: Flash::On { multiple: 1.0, threshold: 0.1 },
         decrease: Decrease::AgeOutWithThreshold { upper: 0.75, epochs: 1, reserve: 0.1 },
-        ..Settings::default()
+        ..Settings::defaults(mode)
     };
     (rows, settings)
 }
@@ -136,7 +136,7 @@ pub fn run(place: &str) -> Result<(), Box<dyn Error>> {
 }
 
 fn opened(place: usize, mode: Mode, world: WorldFile) -> Result<Host<WorldFile>, Refusal> {
-    let (rows, settings) = rows_and_settings(place);
+    let (rows, settings) = rows_and_settings(place, mode);
     Host::open(&Cache::builder().rows(rows).mode(mode).threshold(THRESHOLD).settings(settings), world)
 }
 

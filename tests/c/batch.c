@@ -32,8 +32,8 @@ static void put(uint64_t kind, uint64_t address, uint64_t size) {
     requests[length++] = size;
 }
 
-static speldervacht_settings small_settings(void) {
-    speldervacht_settings settings = speldervacht_default_settings();
+static speldervacht_settings small_settings(uint64_t mode) {
+    speldervacht_settings settings = speldervacht_default_settings(mode);
     settings.initial = 4096;
     settings.largest = 16384;
     settings.smallest = 1024;
@@ -45,7 +45,8 @@ static speldervacht_settings small_settings(void) {
 /* Two equal caches, all other words alike, and no requests. */
 static void open_both(uint64_t mode) {
     memset(&batched, 0x5a, sizeof batched);
-    expect(speldervacht_open(batched.table, TABLE, ROWS, mode, 1000, small_settings()).number == SPELDERVACHT_ACCEPTED,
+    expect(speldervacht_open(batched.table, TABLE, ROWS, mode, 1000, small_settings(mode)).number ==
+               SPELDERVACHT_ACCEPTED,
            "opening");
     stepped = batched;
     length = 0;

@@ -25,7 +25,7 @@ static int order_is(int at, uint64_t kind, uint64_t address, uint64_t size) {
 }
 
 static speldervacht_settings small_settings(void) {
-    speldervacht_settings settings = speldervacht_default_settings();
+    speldervacht_settings settings = speldervacht_default_settings(SPELDERVACHT_ALONE);
     settings.initial = 4096;
     settings.clean = 0.0;
     settings.largest = 16384;
@@ -91,7 +91,7 @@ static void one_entry(void) {
 
 /* Which words a rule's kind reads shows in the table. */
 static void rule_kinds(void) {
-    speldervacht_settings settings = speldervacht_default_settings();
+    speldervacht_settings settings = speldervacht_default_settings(SPELDERVACHT_LEAD);
     expect(open_small(SPELDERVACHT_LEAD) == SPELDERVACHT_ACCEPTED, "opening with no rules");
     expect(table[17] == 0 && table[22] == 0 && table[25] == 0, "no increase, no flash, no decrease");
     settings.increment_kind = settings.decrement_kind = SPELDERVACHT_NO_CAP;

@@ -43,7 +43,7 @@ static void open_side(host *side, uint64_t mode) {
     side->orders = words[side == &standby][2];
     side->table_words = SPELDERVACHT_TABLE_WORDS(2);
     side->order_words = SPELDERVACHT_ORDER_WORDS(2);
-    expect(speldervacht_open(side->table, side->table_words, 2, mode, 1000, speldervacht_default_settings()).number ==
+    expect(speldervacht_open(side->table, side->table_words, 2, mode, 1000, speldervacht_default_settings(mode)).number ==
                SPELDERVACHT_ACCEPTED,
            "opening");
 }
@@ -133,10 +133,11 @@ static speldervacht_answer configure(speldervacht_settings settings) {
     return speldervacht_step(table, TABLE, orders, ORDERS, NULL, 0, request);
 }
 
-/* Small, and fixed unless a rule is put on again. */
+/* Small, and fixed unless a rule is put on again; 0.3 is to be clean in every mode. */
 static speldervacht_settings small_settings(void) {
-    speldervacht_settings settings = speldervacht_default_settings();
+    speldervacht_settings settings = speldervacht_default_settings(SPELDERVACHT_ALONE);
     settings.initial = settings.smallest = 1024;
+    settings.clean = 0.3;
     settings.increase_kind = SPELDERVACHT_INCREASE_OFF;
     settings.flash_kind = SPELDERVACHT_FLASH_OFF;
     settings.decrease_kind = SPELDERVACHT_DECREASE_OFF;

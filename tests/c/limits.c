@@ -12,9 +12,15 @@
 static uint64_t table[SPELDERVACHT_TABLE_WORDS(MORE_ROWS)];
 static uint64_t orders[SPELDERVACHT_ORDER_WORDS(SPELDERVACHT_MOST_ROWS)];
 
+/* The defaults of a cache that is alone, and a clean fraction of 0.3. */
+static speldervacht_settings alone(void) {
+    speldervacht_settings settings = speldervacht_default_settings(SPELDERVACHT_ALONE);
+    settings.clean = 0.3;
+    return settings;
+}
+
 static uint64_t opened(uint64_t rows, uint64_t threshold) {
-    return speldervacht_open(table, SPELDERVACHT_TABLE_WORDS(rows), rows, SPELDERVACHT_ALONE, threshold,
-                             speldervacht_default_settings())
+    return speldervacht_open(table, SPELDERVACHT_TABLE_WORDS(rows), rows, SPELDERVACHT_ALONE, threshold, alone())
         .number;
 }
 
@@ -35,7 +41,7 @@ static uint64_t bad_field(speldervacht_settings settings) {
 }
 
 static void rows_and_words(void) {
-    speldervacht_settings settings = speldervacht_default_settings();
+    speldervacht_settings settings = alone();
     speldervacht_request insert = speldervacht_request_of(SPELDERVACHT_INSERT, 1, 1);
     const uint64_t rows = SPELDERVACHT_MOST_ROWS;
     const size_t words = SPELDERVACHT_TABLE_WORDS(rows), order_words = SPELDERVACHT_ORDER_WORDS(rows);
@@ -104,7 +110,7 @@ static void lists(void) {
     const size_t longest = SPELDERVACHT_LIST_WORDS(ROWS);
     speldervacht_request flush = speldervacht_request_of(SPELDERVACHT_FLUSH, 0, 0);
     for (uint64_t mode = SPELDERVACHT_LEAD; mode <= SPELDERVACHT_STANDBY; mode++) {
-        expect(speldervacht_open(table, TABLE, ROWS, mode, 1, speldervacht_default_settings()).number ==
+        expect(speldervacht_open(table, TABLE, ROWS, mode, 1, speldervacht_default_settings(mode)).number ==
                    SPELDERVACHT_ACCEPTED,
                "opening a lead or a standby");
         for (size_t i = 0; i < longest; i++) {
@@ -140,7 +146,7 @@ static void messages(void) {
 
 /* An entry that nobody uses goes through all idle counts, an epoch each, and stays at the last. */
 static void idle_counts(void) {
-    speldervacht_settings settings = speldervacht_default_settings();
+    speldervacht_settings settings = alone();
     const uint64_t last = SPELDERVACHT_IDLE_COUNTS - 1;
     settings.decrease_kind = SPELDERVACHT_DECREASE_OFF;
     settings.epoch = SPELDERVACHT_SHORTEST_EPOCH;
@@ -161,7 +167,7 @@ static void settings_limits(void) {
     speldervacht_settings settings;
     open_fresh();
 #define EXPECT_FIELD(field, name, value, what)                                                                         \
-    settings = speldervacht_default_settings();                                                                        \
+    settings = alone();                                                                                                \
     settings.preset = 0;                                                                                               \
     settings.name = value;                                                                                             \
     expect(bad_field(settings) == field, what)
@@ -178,7 +184,7 @@ static void settings_limits(void) {
     EXPECT_FIELD(0, decrement_bytes, SPELDERVACHT_LARGEST_CACHE, "the largest cap on a decrease");
     EXPECT_FIELD(12, decrement_bytes, SPELDERVACHT_LARGEST_CACHE + 1, "above the largest cap on a decrease");
 #undef EXPECT_FIELD
-    settings = speldervacht_default_settings();
+    settings = alone();
     settings.initial = settings.largest = settings.smallest = SPELDERVACHT_SMALLEST_CACHE;
     expect(bad_field(settings) == 0, "the smallest cache and no larger");
     settings.preset = 0;

@@ -28,10 +28,16 @@ static size_t length; /* of the message */
 
 /* ---- caches */
 
+/* The defaults, and a clean fraction of 0.3 in every mode. */
+static speldervacht_settings settings_of(uint64_t mode) {
+    speldervacht_settings settings = speldervacht_default_settings(mode);
+    settings.clean = 0.3;
+    return settings;
+}
+
 static void open_cache(uint64_t mode) {
     memset(orders, 0x5a, sizeof orders);
-    expect(speldervacht_open(table, TABLE, ROWS, mode, 1000, speldervacht_default_settings()).number ==
-               SPELDERVACHT_ACCEPTED,
+    expect(speldervacht_open(table, TABLE, ROWS, mode, 1000, settings_of(mode)).number == SPELDERVACHT_ACCEPTED,
            "opening");
 }
 
@@ -254,6 +260,7 @@ static void any_number(void) {
 static void used_up(void) {
     for (uint64_t mode = 0; mode < MODES; mode++) {
         uint64_t sends = mode == SPELDERVACHT_LEAD;
+        speldervacht_request configure = speldervacht_request_of(SPELDERVACHT_CONFIGURE, 0, 0);
         open_with_two(mode);
         step(SPELDERVACHT_PROTECT_FOR_WRITING, 100, 10);
         step(SPELDERVACHT_RESIZE, 100, 30);
@@ -262,7 +269,9 @@ static void used_up(void) {
         step(SPELDERVACHT_RELEASE_CHANGED, 100, 40);
         step(SPELDERVACHT_UNPIN, 100, 0);
         step(SPELDERVACHT_DISCARD, 200, 0);
-        expect(step(SPELDERVACHT_CONFIGURE, 0, 0) == SPELDERVACHT_ACCEPTED, "a configure");
+        configure.settings = settings_of(mode);
+        expect(checked_step(table, TABLE, orders, ORDERS, NULL, 0, configure).number == SPELDERVACHT_ACCEPTED,
+               "a configure");
         expect(report().next == 1, "none of these uses up a number");
         expect((step(SPELDERVACHT_FLUSH, 0, 0) == SPELDERVACHT_ACCEPTED) == (mode != SPELDERVACHT_STANDBY), "a flush");
         expect(report().next == 1 + sends, "a lead's flush uses up a number");
@@ -430,7 +439,8 @@ static void long_message(size_t count) {
 static void every_row(void) {
     static uint64_t large[MOST_TABLE_WORDS], room[MOST_ORDER_WORDS];
     const size_t rows = SPELDERVACHT_MOST_ROWS;
-    expect(speldervacht_open(large, MOST_TABLE_WORDS, rows, SPELDERVACHT_STANDBY, 1, speldervacht_default_settings())
+    expect(speldervacht_open(large, MOST_TABLE_WORDS, rows, SPELDERVACHT_STANDBY, 1,
+                             speldervacht_default_settings(SPELDERVACHT_STANDBY))
                    .number == SPELDERVACHT_ACCEPTED,
            "opening with the most rows");
     for (size_t i = 0; i < rows; i++) {

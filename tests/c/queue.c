@@ -51,7 +51,7 @@ static uint64_t request(side *at, uint64_t kind, uint64_t address, uint64_t size
 }
 
 static void open_side(side *at, uint64_t rows, uint64_t mode) {
-    speldervacht_settings settings = speldervacht_default_settings();
+    speldervacht_settings settings = speldervacht_default_settings(mode);
     settings.initial = settings.smallest = 1024;
     settings.largest = 4096;
     at->rows = rows;

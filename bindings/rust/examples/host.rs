@@ -31,7 +31,7 @@ const SLOT_BYTES: u64 = 1_024;
 const MOST_PINS: usize = 4;
 const MOST_READERS: usize = 4;
 
-fn settings() -> Settings {
+fn settings(mode: Mode) -> Settings {
     Settings {
         initial_size: Some(8_192),
         maximum_size: 16_384,
@@ -41,7 +41,7 @@ fn settings() -> Settings {
         increase_cap: None,
         flash: Flash::On { multiple: 1.0, threshold: 0.1 },
         decrease: Decrease::AgeOutWithThreshold { upper: 0.6, epochs: 2, reserve: 0.1 },
-        ..Settings::default()
+        ..Settings::defaults(mode)
     }
 }
 
@@ -108,7 +108,7 @@ impl Host {
         self.pinned.clear();
         self.readers.clear();
         self.written = None;
-        open(&mut self.table, ROWS, mode, THRESHOLD, &settings())
+        open(&mut self.table, ROWS, mode, THRESHOLD, &settings(mode))
     }
 
     /// What a request would be answered.

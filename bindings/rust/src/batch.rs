@@ -66,7 +66,7 @@ impl ExactSizeIterator for Answers<'_> {}
 /// use speldervacht::{batch, open, order_words, table_words, Mode, PlainRequest, Settings, DEFAULT_THRESHOLD};
 ///
 /// let mut table = [0; table_words(4)];
-/// open(&mut table, 4, Mode::Alone, DEFAULT_THRESHOLD, &Settings::fixed(4_096))?;
+/// open(&mut table, 4, Mode::Alone, DEFAULT_THRESHOLD, &Settings::fixed(Mode::Alone, 4_096))?;
 ///
 /// // Words for one request, and for two orders more.
 /// let mut orders = [0; order_words(4) + 3 * 2];

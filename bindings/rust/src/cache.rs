@@ -43,20 +43,21 @@ pub struct Protected<'o> {
     pub orders: Orders<'o>,
 }
 
-/// How a cache is opened. Without more it has 64 rows, is alone, and has the default threshold and
-/// settings.
+/// How a cache is opened. Without more it has 64 rows, is alone, and has the default threshold and the
+/// default settings of its mode.
 #[derive(Clone, Copy, Debug, PartialEq)]
 #[must_use]
 pub struct Builder {
     rows: usize,
     mode: Mode,
     threshold: u64,
-    settings: Settings,
+    /// The default settings of the mode, if none.
+    settings: Option<Settings>,
 }
 
 impl Default for Builder {
     fn default() -> Builder {
-        Builder { rows: 64, mode: Mode::Alone, threshold: DEFAULT_THRESHOLD, settings: Settings::default() }
+        Builder { rows: 64, mode: Mode::Alone, threshold: DEFAULT_THRESHOLD, settings: None }
     }
 }
 
@@ -66,7 +67,20 @@ impl Builder {
         Builder { rows, ..self }
     }
 
-    /// What part the cache plays.
+    /// What part the cache plays. It decides the default settings, and changes none that are named.
+    ///
+    /// ```
+    /// use speldervacht::{Cache, Mode, Settings};
+    ///
+    /// let builder = Cache::builder();
+    /// assert_eq!(builder.open()?.report()?.minimum_clean, 20_971);
+    /// assert_eq!(builder.mode(Mode::Lead).open()?.report()?.minimum_clean, 629_145);
+    ///
+    /// let named = Settings { clean_fraction: 0.5, ..Settings::defaults(Mode::Lead) };
+    /// assert_eq!(builder.settings(named).mode(Mode::Lead).open()?.report()?.minimum_clean, 1_048_576);
+    /// assert_eq!(builder.mode(Mode::Lead).settings(named).open()?.report()?.minimum_clean, 1_048_576);
+    /// # Ok::<(), speldervacht::Refusal>(())
+    /// ```
     pub fn mode(self, mode: Mode) -> Builder {
         Builder { mode, ..self }
     }
@@ -77,9 +91,9 @@ impl Builder {
         Builder { threshold, ..self }
     }
 
-    /// The settings, which need an initial size.
+    /// The settings, which need an initial size. They are taken as they are, in any mode.
     pub fn settings(self, settings: Settings) -> Builder {
-        Builder { settings, ..self }
+        Builder { settings: Some(settings), ..self }
     }
 
     /// Opens an empty cache.
@@ -93,7 +107,8 @@ impl Builder {
             return Err(Refusal::BadTable);
         }
         let mut cache = Cache::over(vec![0; table_words(self.rows)], self.rows);
-        open(&mut cache.table, self.rows, self.mode, self.threshold, &self.settings)?;
+        let settings = self.settings.unwrap_or_else(|| Settings::defaults(self.mode));
+        open(&mut cache.table, self.rows, self.mode, self.threshold, &settings)?;
         Ok(cache)
     }
 }
@@ -146,9 +161,9 @@ impl Cache {
     /// before the next request or batch.
     ///
     /// ```
-    /// use speldervacht::{Cache, PlainRequest, Refusal, Settings};
+    /// use speldervacht::{Cache, Mode, PlainRequest, Refusal, Settings};
     ///
-    /// let mut cache = Cache::builder().rows(4).settings(Settings::fixed(4_096)).open()?;
+    /// let mut cache = Cache::builder().rows(4).settings(Settings::fixed(Mode::Alone, 4_096)).open()?;
     /// cache.insert(100, 500)?;
     ///
     /// // A tick that reads two records, one of which is loaded, and tries to discard one of them.
@@ -321,7 +336,7 @@ impl Cache {
     /// use speldervacht::{Cache, Mode, Settings};
     ///
     /// // Half of 4,096 bytes are to be clean or unused.
-    /// let settings = Settings { clean_fraction: 0.5, ..Settings::fixed(4_096) };
+    /// let settings = Settings { clean_fraction: 0.5, ..Settings::fixed(Mode::Lead, 4_096) };
     /// let mut lead = Cache::builder().rows(4).mode(Mode::Lead).settings(settings).open()?;
     /// lead.insert(100, 1_000)?;
     /// lead.insert(200, 2_000)?;

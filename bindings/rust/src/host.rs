@@ -21,7 +21,7 @@ use std::{sync::Arc, vec::Vec};
 /// orders of each request.
 ///
 /// ```
-/// use speldervacht::{Cache, Host, HostError, Settings, Store};
+/// use speldervacht::{Cache, Host, HostError, Mode, Settings, Store};
 /// use std::collections::HashMap;
 ///
 /// #[derive(Default)]
@@ -50,7 +50,8 @@ use std::{sync::Arc, vec::Vec};
 ///     }
 /// }
 ///
-/// let mut host = Host::open(&Cache::builder().settings(Settings::fixed(4_096)), Records::default())?;
+/// let small = Cache::builder().settings(Settings::fixed(Mode::Alone, 4_096));
+/// let mut host = Host::open(&small, Records::default())?;
 /// host.create(100, vec![1; 3_000])?;
 /// host.change(100, vec![2; 2_000])?;
 ///
@@ -84,7 +85,7 @@ use std::{sync::Arc, vec::Vec};
 /// #     fn sync(&mut self) -> Result<(), String> { Ok(()) }
 /// # }
 /// # let (world, same_world) = (Records, Records);
-/// let small = Cache::builder().rows(8).settings(Settings::fixed(4_096));
+/// let small = Cache::builder().rows(8).settings(Settings::fixed(Mode::Lead, 4_096));
 /// let mut lead = Host::open(&small.mode(Mode::Lead), world)?;
 /// let mut standby = Host::open(&small.mode(Mode::Standby), same_world)?;
 ///

@@ -20,10 +20,10 @@
 //! # A cache alone
 //!
 //! ```
-//! use speldervacht::{Access, Cache, Settings};
+//! use speldervacht::{Access, Cache, Mode, Settings};
 //!
 //! // A cache of four entries and 4,096 bytes.
-//! let settings = Settings { clean_fraction: 0.0, ..Settings::fixed(4_096) };
+//! let settings = Settings { clean_fraction: 0.0, ..Settings::fixed(Mode::Alone, 4_096) };
 //! let mut cache = Cache::builder().rows(4).settings(settings).open()?;
 //!
 //! // Two new records fit. The third needs room: both are written, and the oldest leaves.
@@ -67,7 +67,7 @@
 //! ```
 //! use speldervacht::{Cache, Message, Mode, Refusal, Request, Settings};
 //!
-//! let small = Cache::builder().rows(2).threshold(1_000).settings(Settings::fixed(4_096));
+//! let small = Cache::builder().rows(2).threshold(1_000).settings(Settings::fixed(Mode::Lead, 4_096));
 //! let mut lead = small.mode(Mode::Lead).open()?;
 //! let mut standby = small.mode(Mode::Standby).open()?;
 //! for address in [100, 200] {
@@ -110,7 +110,7 @@
 //!
 //! let mut table = [0; table_words(4)];
 //! let mut orders = [0; order_words(4)];
-//! open(&mut table, 4, Mode::Alone, DEFAULT_THRESHOLD, &Settings::fixed(4_096))?;
+//! open(&mut table, 4, Mode::Alone, DEFAULT_THRESHOLD, &Settings::fixed(Mode::Alone, 4_096))?;
 //! let given = step(&mut table, &mut orders, &Request::Insert { address: 100, size: 3_000 })?;
 //! assert_eq!(given.len(), 0);
 //! assert_eq!(View::of(&table)?.entries().len(), 1);

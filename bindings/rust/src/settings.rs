@@ -1,6 +1,6 @@
 //! The settings of a cache.
 
-use crate::raw;
+use crate::{raw, Mode};
 
 /// The increase rule: what raises the maximum at an epoch's end.
 #[derive(Clone, Copy, Debug, PartialEq)]
@@ -14,14 +14,14 @@ pub enum Increase {
     /// that the same request makes after that counts again.
     ///
     /// ```
-    /// use speldervacht::{Cache, Increase, Settings};
+    /// use speldervacht::{Cache, Increase, Mode, Settings};
     ///
     /// let settings = Settings {
     ///     clean_fraction: 0.0,
     ///     maximum_size: 16_384,
     ///     epoch_length: 100,
     ///     increase: Increase::Threshold { lower: 0.9, multiplier: 2.0 },
-    ///     ..Settings::fixed(4_096)
+    ///     ..Settings::fixed(Mode::Alone, 4_096)
     /// };
     /// let mut cache = Cache::builder().rows(4).settings(settings).open()?;
     ///
@@ -98,7 +98,7 @@ pub struct Settings {
     /// it; configuring without it brings the maximum it finds into the range.
     pub initial_size: Option<u64>,
     /// 4: the minimum clean fraction: the share of the maximum that is to be clean or unused, in
-    /// [0, 1].
+    /// [0, 1]. Its default goes by the mode.
     pub clean_fraction: f64,
     /// 5: what the maximum never exceeds, from 1,024 to 134,217,728 bytes.
     pub maximum_size: u64,
@@ -118,13 +118,32 @@ pub struct Settings {
     pub decrease_cap: Option<u64>,
 }
 
-impl Default for Settings {
-    /// Evictions on, 2 MiB to begin with, between 1 MiB and 32 MiB, and all three rules on.
-    fn default() -> Settings {
+impl Settings {
+    /// The default settings of a mode: evictions on, 2 MiB to begin with, between 1 MiB and 32 MiB, and
+    /// all three rules on. The minimum clean fraction is 0.01 alone, and 0.3 for a lead and a standby.
+    ///
+    /// ```
+    /// use speldervacht::{Mode, Settings};
+    ///
+    /// assert_eq!(Settings::defaults(Mode::Alone).clean_fraction, 0.01);
+    /// assert_eq!(Settings::defaults(Mode::Lead).clean_fraction, 0.3);
+    /// assert_eq!(Settings::defaults(Mode::Standby).clean_fraction, 0.3);
+    /// ```
+    ///
+    /// There are none without a mode:
+    ///
+    /// ```compile_fail,E0599
+    /// let settings = speldervacht::Settings::default();
+    /// ```
+    #[must_use]
+    pub fn defaults(mode: Mode) -> Settings {
         Settings {
             evictions: true,
             initial_size: Some(2_097_152),
-            clean_fraction: 0.3,
+            clean_fraction: match mode {
+                Mode::Alone => 0.01,
+                Mode::Lead | Mode::Standby => 0.3,
+            },
             maximum_size: 33_554_432,
             minimum_size: 1_048_576,
             epoch_length: 50_000,
@@ -135,12 +154,10 @@ impl Default for Settings {
             decrease_cap: Some(1_048_576),
         }
     }
-}
 
-impl Settings {
-    /// A cache whose maximum stays at `size` bytes: no rule is on, the rest is as by default.
+    /// A cache whose maximum stays at `size` bytes: no rule is on, the rest is as by default in the mode.
     #[must_use]
-    pub fn fixed(size: u64) -> Settings {
+    pub fn fixed(mode: Mode, size: u64) -> Settings {
         Settings {
             initial_size: Some(size),
             maximum_size: size,
@@ -148,7 +165,7 @@ impl Settings {
             increase: Increase::Off,
             flash: Flash::Off,
             decrease: Decrease::Off,
-            ..Settings::default()
+            ..Settings::defaults(mode)
         }
     }
 

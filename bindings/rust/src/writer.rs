@@ -22,7 +22,7 @@ pub const fn message_bytes(count: usize) -> usize {
 /// # use speldervacht::{open, order_words, report, step, table_words, Mode, Settings};
 /// # use speldervacht::{message_bytes, write_message, Refusal, Request};
 /// # let (mut table, mut orders) = ([0; table_words(2)], [0; order_words(2)]);
-/// # open(&mut table, 2, Mode::Lead, 1_000, &Settings::fixed(4_096))?;
+/// # open(&mut table, 2, Mode::Lead, 1_000, &Settings::fixed(Mode::Lead, 4_096))?;
 /// # for address in [200, 100] {
 /// #     step(&mut table, &mut orders, &Request::Insert { address, size: 50 })?;
 /// # }

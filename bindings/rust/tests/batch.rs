@@ -16,12 +16,13 @@ const MODES: [Mode; 3] = [Mode::Alone, Mode::Lead, Mode::Standby];
 fn settings() -> Settings {
     Settings {
         initial_size: Some(2_048),
+        clean_fraction: 0.3,
         maximum_size: 4_096,
         minimum_size: 1_024,
         epoch_length: 100,
         increase: Increase::Threshold { lower: 0.3, multiplier: 1.5 },
         decrease: Decrease::AgeOutWithThreshold { upper: 0.4, epochs: 1, reserve: 0.1 },
-        ..Settings::default()
+        ..Settings::defaults(Mode::Alone)
     }
 }
 
@@ -134,7 +135,8 @@ fn a_batch_is_its_requests_one_by_one() {
 /// More orders than requests: an owned cache goes on by itself.
 #[test]
 fn an_owned_cache_does_all_requests() {
-    let builder = Cache::builder().rows(64).settings(Settings { clean_fraction: 0.0, ..Settings::fixed(6_400) });
+    let settings = Settings { clean_fraction: 0.0, ..Settings::fixed(Mode::Alone, 6_400) };
+    let builder = Cache::builder().rows(64).settings(settings);
     let mut cache = builder.open().unwrap();
     let mut single = builder.open().unwrap();
     // The first large one writes and evicts all small ones.

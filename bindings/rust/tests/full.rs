@@ -22,7 +22,7 @@ fn growing() -> Settings {
         epoch_length: EPOCH,
         increase: Increase::Threshold { lower: 0.9, multiplier: 2.0 },
         increase_cap: None,
-        ..Settings::fixed(4_096)
+        ..Settings::fixed(Mode::Alone, 4_096)
     }
 }
 
@@ -233,7 +233,8 @@ fn the_word_is_0_or_1() {
     for (mode, evictions) in MODES.into_iter().flat_map(|mode| [(mode, true), (mode, false)]) {
         let mut table = vec![7; table_words(4)];
         let mut orders = vec![9; order_words(4)];
-        open(&mut table, 4, mode, 1, &Settings { evictions, ..Settings::fixed(4_096) }).unwrap();
+        let settings = Settings { evictions, clean_fraction: 0.3, ..Settings::fixed(mode, 4_096) };
+        open(&mut table, 4, mode, 1, &settings).unwrap();
         for flag in [0, 1] {
             table[EXCEEDED] = flag;
             assert_eq!(Cache::from_words(table.clone()).unwrap().as_words(), table);

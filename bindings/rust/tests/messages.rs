@@ -26,7 +26,8 @@ const SETTINGS: usize = 10;
 
 /// A cache of 4 rows in which 100 and 200 are dirty.
 fn opened(mode: Mode) -> Cache {
-    let mut cache = Cache::builder().rows(4).mode(mode).settings(Settings::fixed(4_096)).open().unwrap();
+    let settings = Settings { clean_fraction: 0.3, ..Settings::fixed(mode, 4_096) };
+    let mut cache = Cache::builder().rows(4).mode(mode).settings(settings).open().unwrap();
     cache.insert(100, 10).unwrap();
     cache.insert(200, 20).unwrap();
     cache
@@ -142,7 +143,7 @@ fn a_message_longer_than_any_cache_is_judged_to_its_end() {
 
 #[test]
 fn a_lead_of_the_most_rows_is_taken_whole() {
-    let rows = Cache::builder().rows(MOST_ROWS).settings(Settings::fixed(134_217_728));
+    let rows = Cache::builder().rows(MOST_ROWS).settings(Settings::fixed(Mode::Lead, 134_217_728));
     let (mut lead, mut standby) = (rows.mode(Mode::Lead).open().unwrap(), rows.mode(Mode::Standby).open().unwrap());
     let inserts: Vec<PlainRequest> = (0..MOST_ROWS as u64).map(|n| PlainRequest::insert(3 * n, 1)).collect();
     for cache in [&mut lead, &mut standby] {
@@ -166,7 +167,7 @@ fn a_flush_and_a_sync_of_a_lead_use_up_a_number_each() {
     // What is refused, and other requests, use up none.
     lead.protect_for_reading(100, 10).unwrap();
     assert!(lead.flush().is_err());
-    lead.configure(&Settings::fixed(4_096)).unwrap();
+    lead.configure(&Settings::fixed(Mode::Lead, 4_096)).unwrap();
     lead.release(100).unwrap();
     assert_eq!(lead.next_number(), 3);
     // Nor does a flush alone.
@@ -256,7 +257,7 @@ fn a_table_of_a_layout_before_is_refused() {
 fn a_table_of_lent_words_tells_its_next_number() {
     let (mut table, mut orders) = ([7; table_words(2)], [0; order_words(2)]);
     for mode in [Mode::Alone, Mode::Lead, Mode::Standby] {
-        open(&mut table, 2, mode, 1, &Settings::fixed(4_096)).unwrap();
+        open(&mut table, 2, mode, 1, &Settings { clean_fraction: 0.3, ..Settings::fixed(mode, 4_096) }).unwrap();
         assert_eq!((report(&table).unwrap().next, View::of(&table).unwrap().next_number(), table[NEXT]), (1, 1, 1));
     }
     step(&mut table, &mut orders, &Request::Insert { address: 100, size: 1 }).unwrap();

@@ -15,6 +15,7 @@ const THRESHOLD: u64 = 1_000;
 fn settings() -> Settings {
     Settings {
         initial_size: Some(2_048),
+        clean_fraction: 0.3,
         maximum_size: 4_096,
         minimum_size: 1_024,
         epoch_length: 100,
@@ -22,7 +23,7 @@ fn settings() -> Settings {
         increase_cap: None,
         flash: Flash::On { multiple: 1.0, threshold: 0.2 },
         decrease: Decrease::AgeOutWithThreshold { upper: 0.4, epochs: 1, reserve: 0.1 },
-        ..Settings::default()
+        ..Settings::defaults(Mode::Alone)
     }
 }
 
@@ -196,7 +197,7 @@ fn opening_is_refused_as_over_lent_words() {
     }
     assert!(builder.rows(4_096).open().is_ok());
     assert_eq!(builder.threshold(0).open(), Err(Refusal::BadThreshold { threshold: 0 }));
-    let unset = Settings { initial_size: None, ..Settings::default() };
+    let unset = Settings { initial_size: None, ..Settings::defaults(Mode::Alone) };
     assert_eq!(builder.settings(unset).open(), Err(Refusal::BadSetting { field: 2 }));
 }
 

@@ -94,7 +94,7 @@ fn small() -> Settings {
         increase: Increase::Off,
         flash: Flash::Off,
         decrease: Decrease::Off,
-        ..Settings::default()
+        ..Settings::defaults(Mode::Alone)
     }
 }
 
@@ -498,15 +498,15 @@ fn opening_judges_rows_then_threshold_then_settings() {
     }
     assert_eq!(open(&mut table, 4, Mode::Lead, 1, &bad), Err(Refusal::BadSetting { field: 2 }));
     assert!(table.iter().all(|word| *word == 7));
-    open(&mut table, 1, Mode::Lead, 1, &Settings::default()).unwrap();
-    open(&mut table, MOST_ROWS, Mode::Lead, LARGEST_THRESHOLD, &Settings::default()).unwrap();
+    open(&mut table, 1, Mode::Lead, 1, &Settings::defaults(Mode::Lead)).unwrap();
+    open(&mut table, MOST_ROWS, Mode::Lead, LARGEST_THRESHOLD, &Settings::defaults(Mode::Lead)).unwrap();
     assert!(table[table_words(MOST_ROWS)..].iter().all(|word| *word == 7));
 }
 
 #[test]
 fn bad_settings_are_named() {
     let nan = f64::NAN;
-    let good = Settings::default();
+    let good = Settings { clean_fraction: 0.3, ..Settings::defaults(Mode::Alone) };
     let threshold = |upper| Decrease::Threshold { upper, multiplier: 0.5 };
     let cases = [
         (1, Settings { evictions: false, ..good }),

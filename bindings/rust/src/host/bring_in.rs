@@ -32,7 +32,7 @@ impl<S: Store> Host<S> {
     /// #     fn write(&mut self, _: u64, _: &[u8]) -> Result<(), String> { Ok(()) }
     /// #     fn sync(&mut self) -> Result<(), String> { Ok(()) }
     /// # }
-    /// let small = Cache::builder().rows(2).mode(Mode::Standby).settings(Settings::fixed(4_096));
+    /// let small = Cache::builder().rows(2).mode(Mode::Standby).settings(Settings::fixed(Mode::Standby, 4_096));
     /// let mut standby = Host::open(&small, Records)?;
     /// let records: [(u64, Arc<[u8]>); 3] = [100, 200, 300].map(|address| (address, [1, 2, 3].into()));
     ///

@@ -3,7 +3,7 @@
 
 use crate::disk::{books_agree, some_bytes, with_each_failure, Handle};
 use crate::random::Random;
-use speldervacht::{Cache, Decrease, Flash, Host, HostError, Increase, ReadGuard, Settings, WriteGuard};
+use speldervacht::{Cache, Decrease, Flash, Host, HostError, Increase, Mode, ReadGuard, Settings, WriteGuard};
 use std::collections::BTreeMap;
 use std::sync::Arc;
 
@@ -22,7 +22,7 @@ fn settings(maximum: u64, clean_fraction: f64) -> Settings {
         increase_cap: None,
         flash: Flash::On { multiple: 1.0, threshold: 0.2 },
         decrease: Decrease::AgeOutWithThreshold { upper: 0.4, epochs: 1, reserve: 0.1 },
-        ..Settings::default()
+        ..Settings::defaults(Mode::Alone)
     }
 }
 

@@ -11,7 +11,8 @@ const ADDRESSES: usize = 48;
 
 /// 2,048 bytes and 8 rows, over a disk of its own. A standby only reads.
 fn opened(mode: Mode) -> Host<Handle> {
-    let builder = Cache::builder().rows(8).mode(mode).settings(Settings::fixed(2_048));
+    let settings = Settings { clean_fraction: 0.3, ..Settings::fixed(mode, 2_048) };
+    let builder = Cache::builder().rows(8).mode(mode).settings(settings);
     Host::open(&builder, Handle { reader: mode == Mode::Standby, ..Handle::default() }).unwrap()
 }
 
@@ -116,7 +117,8 @@ fn what_a_failing_store_left_out_is_brought_in_later() {
 /// A guard that was dropped is released first.
 #[test]
 fn a_dropped_guard_does_not_keep_a_row() {
-    let mut host = Host::open(&Cache::builder().rows(1), Handle::default()).unwrap();
+    let settings = Settings { clean_fraction: 0.3, ..Settings::defaults(Mode::Alone) };
+    let mut host = Host::open(&Cache::builder().rows(1).settings(settings), Handle::default()).unwrap();
     host.create(100, [1; 10]).unwrap();
     let guard = host.read(100).unwrap();
     let records: [Record; 1] = [(200, [2; 10].into())];

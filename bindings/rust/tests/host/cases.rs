@@ -6,7 +6,7 @@ use std::sync::Arc;
 
 /// Alone, 4,096 bytes, of which so large a share is to be clean.
 fn alone(rows: usize, clean_fraction: f64) -> Host<Handle> {
-    let settings = Settings { clean_fraction, ..Settings::fixed(4_096) };
+    let settings = Settings { clean_fraction, ..Settings::fixed(Mode::Alone, 4_096) };
     Host::open(&Cache::builder().rows(rows).settings(settings), Handle::default()).unwrap()
 }
 
@@ -211,6 +211,11 @@ fn a_guard_is_of_one_host() {
     let _ = host.write(100).unwrap().changed(&mut other, [2; 20]);
 }
 
+/// The defaults alone, and a clean fraction of 0.3.
+fn defaults_alone() -> Settings {
+    Settings { clean_fraction: 0.3, ..Settings::defaults(Mode::Alone) }
+}
+
 /// A store whose writes panic.
 struct Panicking;
 
@@ -236,7 +241,7 @@ impl Store for Panicking {
 
 #[test]
 fn a_store_that_panics_leaves_the_host_as_it_was() {
-    let mut host = Host::open(&Cache::builder(), Panicking).unwrap();
+    let mut host = Host::open(&Cache::builder().settings(defaults_alone()), Panicking).unwrap();
     host.create(100, [1; 10]).unwrap();
     let before = host.cache().clone();
     let flush = std::panic::AssertUnwindSafe(|| host.flush());
@@ -247,7 +252,7 @@ fn a_store_that_panics_leaves_the_host_as_it_was() {
 
 #[test]
 fn a_store_that_panics_leaves_what_was_brought_in_before() {
-    let mut host = Host::open(&Cache::builder().rows(2), Panicking).unwrap();
+    let mut host = Host::open(&Cache::builder().rows(2).settings(defaults_alone()), Panicking).unwrap();
     let records: [(u64, Arc<[u8]>); 3] = [100, 200, 300].map(|address| (address, [1; 10].into()));
     // There is no row for the third until the first is written.
     let bring_in = std::panic::AssertUnwindSafe(|| host.bring_in(&records));

@@ -25,7 +25,7 @@ fn builder() -> Builder {
         increase_cap: None,
         flash: Flash::On { multiple: 1.0, threshold: 0.2 },
         decrease: Decrease::AgeOutWithThreshold { upper: 0.4, epochs: 1, reserve: 0.1 },
-        ..Settings::default()
+        ..Settings::defaults(Mode::Lead)
     })
 }
 
