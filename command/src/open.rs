@@ -9,7 +9,7 @@ use std::io::{Read, Write};
 
 pub fn run(given: &Arguments, _: &mut dyn Read, _: &mut dyn Write) -> Result<Status, Failure> {
     let (rows, mode, threshold) = (rows(given.text(1)?)?, mode(given.text(2)?)?, threshold(given)?);
-    let mut settings = Settings::default();
+    let mut settings = Settings::defaults(mode);
     for at in 3..given.count() {
         set(&mut settings, given.text(at)?).map_err(Failure::Usage)?;
     }

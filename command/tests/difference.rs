@@ -23,7 +23,7 @@ impl Pair {
     fn new() -> Pair {
         let fresh = |mode| {
             let mut table = vec![0; table_words(ROWS)];
-            open(&mut table, ROWS, mode, 4_096, &Settings::default()).unwrap();
+            open(&mut table, ROWS, mode, 4_096, &Settings::defaults(mode)).unwrap();
             table
         };
         let mut pair = Pair { lead: fresh(Mode::Lead), standby: fresh(Mode::Standby) };

@@ -9,16 +9,17 @@ use std::path::PathBuf;
 
 pub const MODES: [Mode; 3] = [Mode::Alone, Mode::Lead, Mode::Standby];
 
-/// Settings with each rule on, off and in its other forms.
+/// Settings with each rule on, off and in its other forms; 0.3 is to be clean in every mode.
 pub fn settings() -> Vec<Settings> {
-    let fixed = Settings::fixed(8_192);
+    let defaults = Settings { clean_fraction: 0.3, ..Settings::defaults(Mode::Alone) };
+    let fixed = Settings { clean_fraction: 0.3, ..Settings::fixed(Mode::Alone, 8_192) };
     vec![
-        Settings::default(),
+        defaults,
         fixed,
         Settings { evictions: false, ..fixed },
-        Settings { epoch_length: 128, increase_cap: None, decrease_cap: Some(0), ..Settings::default() },
-        Settings { decrease: Decrease::Threshold { upper: 0.95, multiplier: 0.5 }, ..Settings::default() },
-        Settings { decrease: Decrease::AgeOut { epochs: 2, reserve: 0.25 }, ..Settings::default() },
+        Settings { epoch_length: 128, increase_cap: None, decrease_cap: Some(0), ..defaults },
+        Settings { decrease: Decrease::Threshold { upper: 0.95, multiplier: 0.5 }, ..defaults },
+        Settings { decrease: Decrease::AgeOut { epochs: 2, reserve: 0.25 }, ..defaults },
         Settings { increase: Increase::Threshold { lower: 0.5, multiplier: 1.5 }, ..fixed },
         Settings { flash: Flash::On { multiple: 2.0, threshold: 0.5 }, minimum_size: 1_024, ..fixed },
     ]
