@@ -105,7 +105,7 @@ fn full_cache(rows: usize, mode: Mode, dirty: bool) -> Model {
         maximum_size: 134_217_728,
         minimum_size: 1_024,
         clean_fraction: 0.5,
-        ..Settings::default_values()
+        ..Settings::default_values(mode)
     };
     let mut m = model::open(rows as u64, true, Some(mode), 262_144, settings).unwrap();
     for (row, address) in shuffled_addresses(rows, ROWS_SEED).into_iter().enumerate() {

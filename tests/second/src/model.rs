@@ -82,12 +82,12 @@ pub struct Settings {
 }
 
 impl Settings {
-    pub fn default_values() -> Settings {
+    pub fn default_values(mode: Mode) -> Settings {
         Settings {
             evictions: true,
             initial_is_set: true,
             initial_size: 2_097_152,
-            clean_fraction: 0.3,
+            clean_fraction: if mode == Mode::Alone { 0.01 } else { 0.3 },
             maximum_size: 33_554_432,
             minimum_size: 1_048_576,
             epoch_length: 50_000,

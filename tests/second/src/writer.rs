@@ -187,7 +187,7 @@ pub fn play(seed: u64, many: u64, tally: &mut Tally) -> Result<(), Box<(Writing,
 /// A standby that has these records dirty and waits for this number.
 pub fn standby_with(records: &[u64], next: u64) -> Model {
     let rows = records.len().max(1) as u64;
-    let opened = model::open(rows, true, Some(Mode::Standby), 1, Settings::default_values());
+    let opened = model::open(rows, true, Some(Mode::Standby), 1, Settings::default_values(Mode::Standby));
     let mut m = opened.expect("a fresh standby");
     m.next = next;
     for (row, address) in records.iter().enumerate() {

@@ -30,7 +30,8 @@ fn numbered(number: u64, list: &[u64]) -> Result<Numbered, Fault> {
 }
 
 fn open(mode: Mode) -> Model {
-    let mut m = model::open(4, true, Some(mode), 1_000, Settings::default_values()).unwrap();
+    let settings = Settings { clean_fraction: 0.3, ..Settings::default_values(mode) };
+    let mut m = model::open(4, true, Some(mode), 1_000, settings).unwrap();
     for address in [100, 200] {
         step(&mut m, Request::Insert { address, size: 10 }).unwrap();
     }

@@ -22,7 +22,7 @@ fn small_settings() -> Settings {
         flash: Flash::Off,
         decrease: Decrease::Off,
         decrease_cap: Cap::None,
-        ..Settings::default_values()
+        ..Settings::default_values(Mode::Alone)
     }
 }
 
@@ -472,11 +472,14 @@ fn an_entry_used_in_one_epoch_goes_at_the_end_of_the_next() {
 
 #[test]
 fn the_default_settings_are_those_of_the_crate() {
-    let mine = picture(&open(1, Mode::Alone, speldervacht::DEFAULT_THRESHOLD, Settings::default_values()));
-    let mut table = vec![0; table_words(1)];
-    let settings = speldervacht::Settings::default();
-    speldervacht::open(&mut table, 1, speldervacht::Mode::Alone, speldervacht::DEFAULT_THRESHOLD, &settings).unwrap();
-    assert_eq!(table, mine);
+    use speldervacht::Mode::{Alone, Lead, Standby};
+    for (mode, its) in MODES.into_iter().zip([Alone, Lead, Standby]) {
+        let mine = picture(&open(1, mode, speldervacht::DEFAULT_THRESHOLD, Settings::default_values(mode)));
+        let mut table = vec![0; table_words(1)];
+        let settings = speldervacht::Settings::defaults(its);
+        speldervacht::open(&mut table, 1, its, speldervacht::DEFAULT_THRESHOLD, &settings).unwrap();
+        assert_eq!(table, mine, "{mode:?}");
+    }
 }
 
 #[test]
