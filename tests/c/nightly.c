@@ -13,7 +13,7 @@
 #define TABLE SPELDERVACHT_TABLE_WORDS(ROWS)
 #define ORDERS SPELDERVACHT_ORDER_WORDS(ROWS)
 
-/* How many records are looked at in a night, and how many of them often. */
+/* How many times a record is looked at in a night, and how many records are looked at often. */
 #define VISITS 400
 #define OFTEN 31
 

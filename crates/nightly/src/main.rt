@@ -20,7 +20,7 @@ const ORDER_WORDS: usize = 387;
 
 type Orders = [u64; ORDER_WORDS];
 
-// How many records are looked at in a night.
+// How many times a record is looked at in a night.
 const VISITS: u64 = 400;
 
 // How many records are looked at often.

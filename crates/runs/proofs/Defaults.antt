@@ -1,7 +1,5 @@
 -- A run that is opened alone with 0.3 named and the other defaults gets the answers, tables and orders that it got when 0.3 was the default of
 -- every mode; and so does one that is opened as a lead or a standby with the defaults.
-use Prim.Native.Nat.{ℕ}
-use mathlib.Core.List.{List}
 use mathlib.Core.Path.{_≡_, ap}
 use Rattle.fraction.specs.Fraction.{decimal}
 use Rattle.settings.proofs.Defaults.{named-as-before, lead-as-before, standby-as-before}

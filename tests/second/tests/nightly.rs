@@ -7,7 +7,7 @@ use second::model::{self, order_words, Mode, Model, Order, Request, Settings};
 const STORED: &str = concat!(env!("CARGO_MANIFEST_DIR"), "/../../crates/nightly/stdout");
 const ROWS: u64 = 64;
 const THRESHOLD: u64 = 262_144;
-/// How many records are looked at in a night, and how many of them often.
+/// How many times a record is looked at in a night, and how many records are looked at often.
 const VISITS: u64 = 400;
 const OFTEN: u64 = 31;
 
