@@ -1,4 +1,5 @@
 // The room that is made for a new entry.
+#![tactic(auto)]
 ghost use Rattle.std.specs.Prelude.{◌≡◌, ◌≤◌, true};
 ghost use Rattle.rules.specs.Cache.{start};
 ghost use Rattle.rules.specs.Limits.{most_size};
@@ -15,7 +16,7 @@ use reason_rules::Change;
 use reasons::runs::RoomRuns;
 use room::{Held, make_room};
 
-#[derive(Drop)]
+#[derive(Clone, Copy)]
 pub struct Admitted {
     // The number after the orders given.
     pub given: usize,
@@ -28,7 +29,7 @@ pub struct Admitted {
 pub fn admit(table: &mut [u64], orders: &mut [u64], rows: usize, size: u64) -> Admitted
     requires { GoodRows table.old rows × (size ≤ most_size) × Fits (cache_in table.old) 0 orders.old }
     ensures did { Did (make_room size true (start (flashed size (cache_in table.old)))) (rest_in table.old) table.new 0 orders.old orders.new result.given }
-    ensures runs_value { (room_runs result.runs ≡ room_reasons size true (start (flashed size (cache_in table.old)))) × (result.change ≡ change_of (flash_change size (cache_in table.old))) }
+    ensures named { (room_runs result.runs ≡ room_reasons size true (start (flashed size (cache_in table.old)))) × (result.change ≡ change_of (flash_change size (cache_in table.old))) }
 {
     let change = flash::flash(table, rows, size);
     let made = make_room(table, orders, rows, size, true, 0, Held::Unknown);

@@ -8,7 +8,7 @@ use rules::answer::{Answer, Refusal};
 use rules::report::Report;
 
 // What report answers: 0 and the figures, or 1 and none.
-#[derive(Drop)]
+#[derive(Clone, Copy)]
 pub struct Reported {
     pub answer: Answer,
     pub report: Report,

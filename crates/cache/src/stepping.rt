@@ -22,7 +22,7 @@ use rules::request::Request;
 use table::header::row_count;
 
 // What a request comes to: its answer, and what its work tells.
-#[derive(Drop)]
+#[derive(Clone, Copy)]
 pub struct Worked {
     pub answer: Answer,
     pub done: Done,

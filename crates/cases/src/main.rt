@@ -1,5 +1,6 @@
 // Document 01's cases, each on a table that is opened anew: the requests, what they give, and the
 // report.
+#![tactic(auto)]
 mod requests;
 
 use entries::default_threshold;

@@ -12,7 +12,7 @@ use rules::entry::Entry;
 use table::lookup::{Found, entry_of};
 
 // All false where there is no entry.
-#[derive(Drop)]
+#[derive(Clone, Copy)]
 pub struct Seen {
     pub here: bool,
     pub held: bool,

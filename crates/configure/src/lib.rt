@@ -1,4 +1,5 @@
 // Configure, where it is not refused: new settings, the maximum they give, and room for nothing.
+#![tactic(auto)]
 ghost use Rattle.std.specs.Prelude.{◌≡◌, false, [], length};
 ghost use Rattle.settings.specs.Validation.{first_bad};
 ghost use Rattle.rules.specs.declared.request.Request.TheVariants.{Configure};
@@ -34,7 +35,7 @@ fn configured_maximum(s: Settings, maximum: u64) -> u64
 fn set_all(table: &mut [u64], s: Settings) -> Change
     requires { Good table.old × (first_bad s false ≡ 0) }
     ensures holds { Holds table.new (configured s (cache_in table.old)) (rest_in table.old) }
-    ensures value { result ≡ change_of (settings_change s (cache_in table.old)) }
+    ensures change { result ≡ change_of (settings_change s (cache_in table.old)) }
 {
     let before = maximum(table);
     let n = configured_maximum(s, before);

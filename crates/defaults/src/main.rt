@@ -1,5 +1,6 @@
 // The defaults, a number to a line: the dirty-byte threshold, then for each mode, alone, lead and
 // standby, the settings' 21 words as they stand in a table.
+#![tactic(auto)]
 use entries::default_threshold;
 use libc::STDOUT_FILENO;
 use settings::{Mode, Settings};

@@ -1,4 +1,5 @@
 // Entries by value: what a request does to one, and the tests that it passes.
+#![tactic(auto)]
 mod entry;
 mod hold;
 mod limits;

@@ -15,7 +15,7 @@ use rules::answer::{Answer, Refusal};
 use rules::request::Request;
 use table::header::row_count;
 
-#[derive(Drop)]
+#[derive(Clone, Copy)]
 pub struct Explained {
     pub answer: Answer,
     // Of the maximum.

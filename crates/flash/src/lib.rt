@@ -1,4 +1,5 @@
 // The flash: a large incoming size raises the maximum before any room is made.
+#![tactic(auto)]
 ghost use Rattle.std.specs.Prelude.{◌≡◌, Bool, ◌≤◌, ltb};
 ghost use Rattle.rules.specs.Entries.{if◌then◌else◌};
 ghost use Rattle.rules.specs.Resizing.{flashed};
@@ -34,7 +35,7 @@ fn is_flash(rule: Flash, x: u64, maximum: u64) -> bool
 fn raise(table: &mut [u64], before: u64, n: u64, bound: Bound) -> Change
     requires { Good table.old × (before ≡ (cache_in table.old).maximum) × (n ≤ (cache_in table.old).settings.largest) }
     ensures holds { Holds table.new (raised n (cache_in table.old)) (rest_in table.old) }
-    ensures value { result ≡ (if ltb before n then change.To cause.Flash bound else change.Same) }
+    ensures change { result ≡ (if ltb before n then change.To cause.Flash bound else change.Same) }
 {
     if before < n {
         set_maximum(table, n);
@@ -51,7 +52,7 @@ fn raise(table: &mut [u64], before: u64, n: u64, bound: Bound) -> Change
 pub fn flash(table: &mut [u64], rows: usize, x: u64) -> Change
     requires { GoodRows table.old rows }
     ensures holds { Holds table.new (flashed x (cache_in table.old)) (rest_in table.old) }
-    ensures value { result ≡ change_of (flash_change x (cache_in table.old)) }
+    ensures change { result ≡ change_of (flash_change x (cache_in table.old)) }
 {
     let s = settings(table);
     let rule = s.flash;

@@ -3,6 +3,8 @@
 //
 // Every function answers at every input: no number, infinities, negative numbers, -0.0, the
 // smallest numbers and those from 2^64 on included.
+#![tactic(auto)]
+
 ghost use Rattle.std.specs.Prelude.{◌≡◌};
 ghost use Rattle.fraction.specs.Fraction.{size_product, hit_rate, reserve_quotient, exceeds_share};
 

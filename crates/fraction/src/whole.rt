@@ -18,7 +18,7 @@ const NOT_FINITE: u64 = 2047;
 // The whole part of x by one shift: 0 where x is below 1 or no number, the largest u64 from 2^64 on.
 pub fn whole_part(x: f64) -> u64
     ensures value { result ≡ whole_of_word (to_bits binary64 x) }
-    ensures value_2 { result ≡ whole_part x }
+    ensures whole { result ≡ whole_part x }
 {
     let w = word_of(x);
     let exponent = w % SIGN / EXPONENT;

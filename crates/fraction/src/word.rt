@@ -15,7 +15,7 @@ pub const SIGN: u64 = 0x8000_0000_0000_0000;
 // The word of a float. A float of a program is one that the format holds.
 pub fn word_of(x: f64) -> u64
     ensures value { result ≡ to_bits binary64 x }
-    ensures t { T (fits binary64 x) }
+    ensures fits { T (fits binary64 x) }
 {
     if x != x {
         return NO_NUMBER;

@@ -19,6 +19,7 @@
 //   can be free, and that is tested. As many rows are used as the address run has words, so it names
 //   all of them.
 // - All ones is the largest word, so of rising addresses only the last can be all ones.
+#![tactic(auto)]
 ghost use Rattle.std.specs.Prelude.{◌≡◌, ◌≤◌, length};
 ghost use Rattle.layout.specs.Layout.{row_at};
 ghost use Rattle.rules.specs.Limits.{most_rows};

@@ -13,7 +13,7 @@ const MOST_IDLE: u64 = 10;
 const WRITER: u64 = 65536;
 
 // The words of a row, in their order.
-#[derive(Drop)]
+#[derive(Clone, Copy)]
 pub struct RowWords {
     pub address: u64,
     pub size: u64,

@@ -16,6 +16,7 @@
 //     31 + 8 n     the end; the words from here on are never touched
 //
 // The functions read and write one part each. They ask only that the part lies in the table, and state every word.
+#![tactic(auto)]
 pub mod fresh;
 pub mod header;
 pub mod order;

@@ -1,4 +1,5 @@
 // Lines of input: `insert ADDRESS SIZE`.
+#![tactic(auto)]
 mod line;
 mod number;
 

@@ -4,7 +4,7 @@ ghost use Rattle.lines.specs.Lines.{number_at, begins, size_then_end, address_th
 
 use crate::number::{Number, number_at};
 
-#[derive(Drop)]
+#[derive(Clone, Copy)]
 pub enum Line {
     Insert { address: u64, size: u64 },
     Bad,

@@ -3,7 +3,7 @@ ghost use Rattle.std.specs.Prelude.{◌≡◌, cond, ◌≤◌, ◌<◌, ◌+◌
 ghost use Rattle.lines.specs.Lines.{is_digit, number_at};
 ghost use Rattle.lines.specs.declared.number.Number.TheVariants as number;
 
-#[derive(Drop)]
+#[derive(Clone, Copy)]
 pub enum Number {
     // The number, and the place after it.
     Value { value: u64, next: usize },

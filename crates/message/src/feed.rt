@@ -5,7 +5,7 @@ ghost use Rattle.rules.specs.Messages as messages;
 ghost use Rattle.message.specs.Feeding.{Sound, expects, Feeds};
 
 // What has been read of a message.
-#[derive(Drop)]
+#[derive(Clone, Copy)]
 pub struct Reader {
     // What comes next: 0 to 2 tag and length of the number, 3 to 10 the number, 11 to 13 tag and length of the count, 14 and 15 the
     // count, 16 a tag, 17 and 18 the length of an address, 19 to 26 the address, 27 and 28 the end's length, 29 nothing.
@@ -20,7 +20,7 @@ pub struct Reader {
 }
 
 // What one byte leads to.
-#[derive(Drop)]
+#[derive(Clone, Copy)]
 pub enum Fed {
     Going(Reader),
     // The byte was the last one of an address.

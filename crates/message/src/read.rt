@@ -11,7 +11,7 @@ use crate::feed::{ALL_ONES, Fed, Reader, feed};
 pub const MOST_ROWS: usize = 4096;
 
 // What bytes lead to.
-#[derive(Drop)]
+#[derive(Clone, Copy)]
 enum Reading {
     Going(Reader),
     // After a byte that no right message can have there.
@@ -19,7 +19,7 @@ enum Reading {
 }
 
 // What a message is.
-#[derive(Drop)]
+#[derive(Clone, Copy)]
 pub enum Read {
     // A numbered list with so many addresses, and whether all ones is one of them.
     Right { number: u64, count: u64, ones: bool },
@@ -155,7 +155,7 @@ fn fields_end(r: Reader, left: usize) -> u64
 }
 
 // A reader behind whole fields.
-#[derive(Drop)]
+#[derive(Clone, Copy)]
 struct Behind {
     reader: Reader,
     at: usize,

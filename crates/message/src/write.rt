@@ -10,7 +10,7 @@ use rules::answer::Refusal;
 const MOST_LISTED: usize = 65535;
 
 // What writing a message came to.
-#[derive(Drop)]
+#[derive(Clone, Copy)]
 pub enum Written {
     // So many bytes are written.
     Bytes(u64),

@@ -1,6 +1,7 @@
 // A night of the backup host: alone, the minimum clean fraction 0.3 named, all else by default. It
 // goes through the world's records, some of them often, changes every third that it looks at, and
 // flushes at the end. Its orders, one to a line.
+#![tactic(auto)]
 use entries::default_threshold;
 use rules::request::{Access, Request};
 use settings::{Mode, Settings};

@@ -8,6 +8,7 @@
 //     verdict    a verdict as numbers
 //     figures    a report as numbers
 //     writing    what writing a message came to, as numbers
+#![tactic(auto)]
 pub mod answer;
 pub mod explained;
 pub mod figures;

@@ -5,7 +5,7 @@
 
 // An increase rule: 0 off, 1 by threshold.
 #[repr(C)]
-#[derive(Drop)]
+#[derive(Clone, Copy)]
 pub struct RawIncrease {
     pub kind: u64,
     pub lower: f64,
@@ -14,7 +14,7 @@ pub struct RawIncrease {
 
 // A cap on one change of the maximum: 0 none, 1 up to.
 #[repr(C)]
-#[derive(Drop)]
+#[derive(Clone, Copy)]
 pub struct RawCap {
     pub kind: u64,
     pub bytes: u64,
@@ -22,7 +22,7 @@ pub struct RawCap {
 
 // A flash rule: 0 off, 1 on.
 #[repr(C)]
-#[derive(Drop)]
+#[derive(Clone, Copy)]
 pub struct RawFlash {
     pub kind: u64,
     pub multiple: f64,
@@ -31,7 +31,7 @@ pub struct RawFlash {
 
 // A decrease rule: 0 off, 1 by threshold, 2 by age-out, 3 by age-out with threshold.
 #[repr(C)]
-#[derive(Drop)]
+#[derive(Clone, Copy)]
 pub struct RawDecrease {
     pub kind: u64,
     pub upper: f64,
@@ -42,7 +42,7 @@ pub struct RawDecrease {
 
 // struct speldervacht_settings
 #[repr(C)]
-#[derive(Drop)]
+#[derive(Clone, Copy)]
 pub struct RawSettings {
     pub evictions: u64,
     pub preset: u64,
@@ -60,7 +60,7 @@ pub struct RawSettings {
 
 // struct speldervacht_request
 #[repr(C)]
-#[derive(Drop)]
+#[derive(Clone, Copy)]
 pub struct RawRequest {
     pub kind: u64,
     pub address: u64,
@@ -70,7 +70,7 @@ pub struct RawRequest {
 
 // struct speldervacht_answer
 #[repr(C)]
-#[derive(Drop)]
+#[derive(Clone, Copy)]
 pub struct RawAnswer {
     pub number: u64,
     pub field: u64,
@@ -79,7 +79,7 @@ pub struct RawAnswer {
 
 // struct speldervacht_explanation
 #[repr(C)]
-#[derive(Drop)]
+#[derive(Clone, Copy)]
 pub struct RawExplanation {
     pub number: u64,
     pub field: u64,
@@ -90,7 +90,7 @@ pub struct RawExplanation {
 
 // struct speldervacht_batched
 #[repr(C)]
-#[derive(Drop)]
+#[derive(Clone, Copy)]
 pub struct RawBatched {
     pub number: u64,
     pub done: u64,
@@ -99,7 +99,7 @@ pub struct RawBatched {
 
 // struct speldervacht_verdict
 #[repr(C)]
-#[derive(Drop)]
+#[derive(Clone, Copy)]
 pub struct RawVerdict {
     pub number: u64,
     pub field: u64,
@@ -107,7 +107,7 @@ pub struct RawVerdict {
 
 // struct speldervacht_figures
 #[repr(C)]
-#[derive(Drop)]
+#[derive(Clone, Copy)]
 pub struct RawFigures {
     pub number: u64,
     pub held: u64,
@@ -124,7 +124,7 @@ pub struct RawFigures {
 
 // struct speldervacht_written
 #[repr(C)]
-#[derive(Drop)]
+#[derive(Clone, Copy)]
 pub struct RawWritten {
     pub number: u64,
     pub bytes: u64,

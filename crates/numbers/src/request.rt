@@ -6,7 +6,7 @@ use crate::raw::RawRequest;
 use crate::setting::settings_of;
 use rules::request::{Access, Request};
 
-#[derive(Drop)]
+#[derive(Clone, Copy)]
 pub enum Asked {
     Known(Request),
     // No request has this kind.

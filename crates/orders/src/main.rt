@@ -1,4 +1,5 @@
 // The program `orders` on case P1.
+#![tactic(auto)]
 fn main() {
     shell::serve();
 }

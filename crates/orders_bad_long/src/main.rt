@@ -1,4 +1,5 @@
 // The program `orders` on a line that its buffer does not hold: the lines after it are not run.
+#![tactic(auto)]
 fn main() {
     shell::serve();
 }

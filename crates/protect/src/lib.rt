@@ -1,4 +1,5 @@
 // Protect, where it is not refused: a hit takes the hold, a miss loads the entry; then the access is counted.
+#![tactic(auto)]
 ghost use Rattle.std.specs.Prelude.{◌≡◌, true, false, [], ◌∷◌, ◌++◌, ◌≤◌, ◌+◌, ◌*◌, length};
 ghost use Rattle.std.proofs.Math.Option.{none};
 ghost use Rattle.rules.specs.declared.request.Request.TheVariants.{Protect};
@@ -112,7 +113,7 @@ fn miss(
 ) -> Done
     requires { GoodRows table.old rows × Allowed (cache_in table.old) × (get (cache_in table.old).rows address ≡ none) × (too_few_words (cache_in table.old) (length orders.old) ≡ false) × (bad_address address ≡ false) × (bad_size size ≡ false) × (no_row (cache_in table.old) ≡ false) }
     ensures did { Did (missed access address size (cache_in table.old)) (rest_in table.old) table.new 0 orders.old orders.new result.given }
-    ensures runs_value { (all_runs result.runs ≡ miss_reasons access address size (cache_in table.old)) × (result.change ≡ change_of (miss_changes access address size (cache_in table.old))) }
+    ensures named { (all_runs result.runs ≡ miss_reasons access address size (cache_in table.old)) × (result.change ≡ change_of (miss_changes access address size (cache_in table.old))) }
 {
     let admitted = admit(table, orders, rows, size);
     let loaded = load(table, orders, rows, access, address, size, admitted.given);
@@ -131,7 +132,7 @@ fn hit_row(
 ) -> Done
     requires { GoodRows table.old rows × Allowed (cache_in table.old) × RowOf (cache_in table.old).rows address row × (too_few_words (cache_in table.old) (length orders.old) ≡ false) × (entry_test (cache_in table.old) address (λ e. forbids e.hold access) ≡ false) }
     ensures did { Did (hit access address (cache_in table.old)) (rest_in table.old) table.new 0 orders.old orders.new result.given }
-    ensures runs_value { (all_runs result.runs ≡ hit_reasons access address (cache_in table.old)) × (result.change ≡ change_of (hit_changes access address (cache_in table.old))) }
+    ensures named { (all_runs result.runs ≡ hit_reasons access address (cache_in table.old)) × (result.change ≡ change_of (hit_changes access address (cache_in table.old))) }
 {
     let e = entry_of(table, rows, row, address);
     touch_entry(table, rows, row, protected_for(access, e));

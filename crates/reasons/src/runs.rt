@@ -7,7 +7,7 @@ ghost use Rattle.reasons.specs.Runs.{room_runs, all_runs};
 use reason_rules::{Change, Reason};
 
 // The orders of one making of room: those of the first step, and those for the clean share.
-#[derive(Drop)]
+#[derive(Clone, Copy)]
 pub struct RoomRuns {
     pub reason: Reason,
     pub first: usize,
@@ -15,7 +15,7 @@ pub struct RoomRuns {
 }
 
 // The orders of a request: room, a load, those aged out, and room again.
-#[derive(Drop)]
+#[derive(Clone, Copy)]
 pub struct Runs {
     pub room: RoomRuns,
     pub load: usize,
@@ -24,7 +24,7 @@ pub struct Runs {
 }
 
 // What the work of a request tells.
-#[derive(Drop)]
+#[derive(Clone, Copy)]
 pub struct Done {
     // The number after the orders given.
     pub given: usize,

@@ -1,4 +1,5 @@
 // Release, unchanged and changed, where it is not refused: a hold goes, and when it was the last, room is made for nothing.
+#![tactic(auto)]
 ghost use Rattle.std.specs.Prelude.{◌≡◌, false, [], length};
 ghost use Rattle.rules.specs.declared.request.Request.TheVariants.{Release, ReleaseChanged};
 ghost use Rattle.rules.specs.Hosts.{asking};
@@ -32,7 +33,7 @@ fn room_unless_held(
 ) -> Made
     requires { GoodRows table.old rows × Fits (cache_in table.old) 0 orders.old × HeldIs known (cache_in table.old) }
     ensures did { Did (room_unless_held hold (cache_in table.old)) (rest_in table.old) table.new 0 orders.old orders.new result.given }
-    ensures runs_value { room_runs result.runs ≡ reasons_unless_held hold (cache_in table.old) }
+    ensures named { room_runs result.runs ≡ reasons_unless_held hold (cache_in table.old) }
 {
     if is_held(hold) {
         let runs = no_runs();

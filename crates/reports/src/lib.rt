@@ -1,4 +1,5 @@
 // The report of the cache that a good table holds.
+#![tactic(auto)]
 ghost use Rattle.std.specs.Prelude.{◌≡◌};
 ghost use Rattle.rules.specs.Entries.{if◌then◌else◌};
 ghost use Rattle.rules.specs.Reports.{report_of, idle_count, totals_from};
@@ -21,7 +22,7 @@ fn size_if(counts: bool, size: u64) -> u64
 }
 
 // Sums over the rows.
-#[derive(Drop)]
+#[derive(Clone, Copy)]
 pub struct Sums {
     // All sizes.
     pub held: u64,

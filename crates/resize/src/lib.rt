@@ -1,4 +1,5 @@
 // A size named for an entry: resize, and what a changed release shares with it.
+#![tactic(auto)]
 ghost use Rattle.std.specs.Prelude.{◌≡◌, false, []};
 ghost use Rattle.std.proofs.Math.Option.{some};
 ghost use Rattle.rules.specs.declared.request.Request.TheVariants.{Resize};
@@ -24,7 +25,7 @@ use table::lookup::entry_of;
 pub fn name_size(table: &mut [u64], rows: usize, e: Entry, size: u64) -> Change
     requires { GoodRows table.old rows × (get (cache_in table.old).rows e.address ≡ some e) × (bad_size size ≡ false) }
     ensures holds { Holds table.new (named e.address size (cache_in table.old)) (rest_in table.old) }
-    ensures value { result ≡ change_of (flash_change (growth e.address size (cache_in table.old)) (cache_in table.old)) }
+    ensures change { result ≡ change_of (flash_change (growth e.address size (cache_in table.old)) (cache_in table.old)) }
 {
     let change = flash::flash(table, rows, new_maximum::less(size, e.size));
     if e.dirty {
@@ -38,7 +39,7 @@ pub fn name_size(table: &mut [u64], rows: usize, e: Entry, size: u64) -> Change
 pub fn resize(table: &mut [u64], row: usize, address: u64, size: u64) -> Change
     requires { Unrefused table.old (asking (Resize address size) [] 0) × RowOf (cache_in table.old).rows address row }
     ensures holds { Holds table.new (effect (cache_in table.old) [] (Resize address size)).cache (rest_in table.old) }
-    ensures value { result ≡ change_of (changes_of (cache_in table.old) (Resize address size)) }
+    ensures change { result ≡ change_of (changes_of (cache_in table.old) (Resize address size)) }
 {
     let rows = row_count(table);
     let e = entry_of(table, rows, row, address);

@@ -7,7 +7,7 @@ ghost use Rattle.room.specs.Held.{HeldIs};
 
 use table::sums::held_bytes;
 
-#[derive(Drop)]
+#[derive(Clone, Copy)]
 pub enum Held {
     Known(u64),
     // They are summed where they are needed.

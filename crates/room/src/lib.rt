@@ -1,4 +1,5 @@
 // Making room in the table.
+#![tactic(auto)]
 mod held;
 mod pass;
 mod room;

@@ -14,13 +14,13 @@ use table::orders::{evict_at, turn_tail};
 use table::runs::{has_free, listed_len};
 
 // What stopped the loop.
-#[derive(Drop)]
+#[derive(Clone, Copy)]
 pub enum Stop {
     Enough,
     NothingLeft,
 }
 
-#[derive(Drop)]
+#[derive(Clone, Copy)]
 pub struct Evicted {
     pub stop: Stop,
     // The held bytes that are left.

@@ -23,7 +23,7 @@ use reasons::runs::{RoomRuns, no_runs, pressing};
 use table::header::{maximum, mode, set_exceeded, settings};
 
 // What making room tells.
-#[derive(Drop)]
+#[derive(Clone, Copy)]
 pub struct Made {
     // The number after the orders given.
     pub given: usize,
@@ -31,14 +31,14 @@ pub struct Made {
 }
 
 // The number after the orders of the first step, and that after those of both.
-#[derive(Drop)]
+#[derive(Clone, Copy)]
 struct Steps {
     first: usize,
     given: usize,
 }
 
 // What the beginning of making room finds: the held bytes, and whether held plus incoming exceeds the maximum.
-#[derive(Drop)]
+#[derive(Clone, Copy)]
 struct Found {
     held: u64,
     exceeded: bool,
@@ -57,7 +57,7 @@ fn room_in(
 ) -> Steps
     requires { GoodRows table.old rows × (alone ≡ is_alone (cache_in table.old).mode) × (size ≤ most_size) × Fits (cache_in table.old) before orders.old × HeldIs known (cache_in table.old) }
     ensures did { Did (room_in (cache_in table.old).mode size row (start (cache_in table.old))) (rest_in table.old) table.new before orders.old orders.new result.given }
-    ensures first_value { (result.first ≡ before + length (evict_in alone size row (cache_in table.old)).orders) × (result.first ≤ result.given) }
+    ensures first { (result.first ≡ before + length (evict_in alone size row (cache_in table.old)).orders) × (result.first ≤ result.given) }
 {
     let evicted = evict_until(table, orders, rows, alone, size, row, before, known);
     let first = evicted.given;
@@ -75,7 +75,7 @@ fn room_in(
 fn note_exceeded(table: &mut [u64], size: u64, held: u64) -> bool
     requires { Good table.old × (size ≤ most_size) × (held ≡ held_bytes (cache_in table.old).rows) }
     ensures holds { Holds table.new (noticed size (start (cache_in table.old))).cache (rest_in table.old) }
-    ensures value { result ≡ overfull size (cache_in table.old) }
+    ensures overfull { result ≡ overfull size (cache_in table.old) }
 {
     if maximum(table) < held + size {
         set_exceeded(table, true);
@@ -88,7 +88,7 @@ fn note_exceeded(table: &mut [u64], size: u64, held: u64) -> bool
 fn begin_room(table: &mut [u64], rows: usize, size: u64, known: Held) -> Found
     requires { GoodRows table.old rows × (size ≤ most_size) × HeldIs known (cache_in table.old) }
     ensures holds { Holds table.new (noticed size (start (cache_in table.old))).cache (rest_in table.old) }
-    ensures held_value { (result.held ≡ held_bytes (cache_in table.old).rows) × (result.exceeded ≡ overfull size (cache_in table.old)) }
+    ensures figures { (result.held ≡ held_bytes (cache_in table.old).rows) × (result.exceeded ≡ overfull size (cache_in table.old)) }
 {
     let held = held_now(table, rows, known);
     let exceeded = note_exceeded(table, size, held);
@@ -124,7 +124,7 @@ pub fn make_room(
 ) -> Made
     requires { GoodRows table.old rows × (size ≤ most_size) × Fits (cache_in table.old) before orders.old × HeldIs known (cache_in table.old) }
     ensures did { Did (make_room size row (start (cache_in table.old))) (rest_in table.old) table.new before orders.old orders.new result.given }
-    ensures runs_value { room_runs result.runs ≡ room_reasons size row (start (cache_in table.old)) }
+    ensures named { room_runs result.runs ≡ room_reasons size row (start (cache_in table.old)) }
 {
     let s = settings(table);
     if !s.evictions {

@@ -1,7 +1,7 @@
 // What a request answers. The numbers are in specs/Answers.antt.
 
 // Why a request is refused, by rising number from 1.
-#[derive(Drop)]
+#[derive(Clone, Copy)]
 pub enum Refusal {
     // 1: the row count, the table's length or its words.
     Table,
@@ -37,7 +37,7 @@ pub enum Refusal {
     Number,
 }
 
-#[derive(Drop)]
+#[derive(Clone, Copy)]
 pub enum Answer {
     // 0, with the number of orders.
     Accepted(u64),
@@ -45,7 +45,7 @@ pub enum Answer {
 }
 
 // What a request would be answered: accepted, or why not.
-#[derive(Drop)]
+#[derive(Clone, Copy)]
 pub enum Verdict {
     Accepted,
     Refused(Refusal),

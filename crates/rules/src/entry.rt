@@ -1,14 +1,14 @@
 // An entry and the row that it stands in.
 
 // A hold: free, read by 1 to 65,535 readers, or held for writing.
-#[derive(Drop)]
+#[derive(Clone, Copy)]
 pub enum Hold {
     Unheld,
     Readers(u64),
     Writer,
 }
 
-#[derive(Drop)]
+#[derive(Clone, Copy)]
 pub struct Entry {
     // Any 64-bit number but all ones.
     pub address: u64,
@@ -23,7 +23,7 @@ pub struct Entry {
     pub hold: Hold,
 }
 
-#[derive(Drop)]
+#[derive(Clone, Copy)]
 pub enum Row {
     Free,
     Used(Entry),

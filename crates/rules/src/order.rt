@@ -1,14 +1,14 @@
 // The orders that the host carries out.
 
 // After a write the entry is clean.
-#[derive(Drop)]
+#[derive(Clone, Copy)]
 pub enum Kind {
     Write,
     Evict,
     Load,
 }
 
-#[derive(Drop)]
+#[derive(Clone, Copy)]
 pub struct Order {
     pub kind: Kind,
     pub address: u64,

@@ -1,6 +1,6 @@
 // The report of a cache.
 
-#[derive(Drop)]
+#[derive(Clone, Copy)]
 pub struct Report {
     // Held bytes: the sum of all sizes.
     pub held: u64,

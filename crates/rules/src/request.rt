@@ -2,14 +2,14 @@
 use settings::Settings;
 
 // What an entry is protected for.
-#[derive(Drop)]
+#[derive(Clone, Copy)]
 pub enum Access {
     Reading,
     Writing,
 }
 
 // Take's message is lent beside the request.
-#[derive(Drop)]
+#[derive(Clone, Copy)]
 pub enum Request {
     Insert {
         address: u64,

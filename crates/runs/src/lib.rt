@@ -2,3 +2,4 @@
 //
 // There is no code here: specs/ says which runs there are and what holds after them, over the definitions that the
 // functions of cache are equal to, and proofs/ proves it.
+#![tactic(auto)]

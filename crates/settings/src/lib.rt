@@ -1,6 +1,8 @@
 // The mode of a cache, and its settings: twelve fields, their default values and their validation.
 //
 // A field's number is its place in the list of document 01, from 1 to 12.
+#![tactic(auto)]
+
 ghost use Rattle.std.specs.Prelude.{◌≡◌};
 ghost use Rattle.settings.specs.Defaults.{default_clean, defaults};
 
@@ -10,7 +12,7 @@ mod validation;
 pub use validation::{decreases, first_bad_field, increases};
 
 // What part a cache plays; fixed at opening.
-#[derive(Drop)]
+#[derive(Clone, Copy)]
 pub enum Mode {
     Alone,
     Lead,
@@ -18,7 +20,7 @@ pub enum Mode {
 }
 
 // The increase rule.
-#[derive(Drop)]
+#[derive(Clone, Copy)]
 pub enum Increase {
     Off,
     // The hit rate below which the maximum rises, and what it is multiplied by.
@@ -26,7 +28,7 @@ pub enum Increase {
 }
 
 // The cap on one change of the maximum.
-#[derive(Drop)]
+#[derive(Clone, Copy)]
 pub enum Cap {
     None,
     // In bytes.
@@ -34,7 +36,7 @@ pub enum Cap {
 }
 
 // The flash rule.
-#[derive(Drop)]
+#[derive(Clone, Copy)]
 pub enum Flash {
     Off,
     // What a size is multiplied by, and the share of the maximum that it has to exceed.
@@ -43,7 +45,7 @@ pub enum Flash {
 
 // The decrease rule. The upper rate is the hit rate above which the maximum falls, the epochs are
 // the idle count from which an entry is evicted, and the reserve is the share that is kept empty.
-#[derive(Drop)]
+#[derive(Clone, Copy)]
 pub enum Decrease {
     Off,
     Threshold {
@@ -61,7 +63,7 @@ pub enum Decrease {
     },
 }
 
-#[derive(Drop)]
+#[derive(Clone, Copy)]
 pub struct Settings {
     // 1: evictions
     pub evictions: bool,

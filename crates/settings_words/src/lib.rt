@@ -15,6 +15,7 @@
 //
 // A fraction is stored as the word of its float. The word of an absent particular is 0, so settings
 // have one picture. The functions work at the start of the part of a table that they are lent.
+#![tactic(auto)]
 ghost use Rattle.std.specs.Prelude.{◌≡◌, ◌++◌, ◌≤◌, length, drop};
 ghost use Rattle.settings_words.specs.Words.{settings_words};
 ghost use Rattle.settings_words.specs.FloatsFit.{FloatsFit};
@@ -112,7 +113,7 @@ pub fn is_picture(w: &[u64]) -> bool
 // Writes the words of s over the first 21.
 pub fn store(t: &mut [u64], s: Settings)
     requires { 21 ≤ length t.old }
-    ensures t_after { t.new ≡ settings_words s ++ drop 21 t.old }
+    ensures words_after { t.new ≡ settings_words s ++ drop 21 t.old }
     ensures floats_fit { FloatsFit s }
 {
     let own = words_of(s);

@@ -12,7 +12,7 @@ use rules::request::Request;
 use small_setup::{Orders, Table};
 
 // What a piece of input leaves.
-#[derive(Drop)]
+#[derive(Clone, Copy)]
 pub enum Rest {
     // An unfinished line: where it starts, or how long it is.
     Unfinished(usize),

@@ -3,6 +3,7 @@
 //
 // The input is read in pieces. The lines that are whole are run, the unfinished one is moved to the
 // buffer's front, and the next piece goes behind it. A line that fills the buffer is a bad line.
+#![tactic(auto)]
 ghost use Rattle.std.specs.Prelude.{◌≡◌, []};
 ghost use Rattle.cache.specs.Tables.{step_words};
 

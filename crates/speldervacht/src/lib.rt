@@ -3,6 +3,7 @@
 // The host lends the table, the words for orders and for their reasons, a message's bytes, a list to write, and a batch's requests and
 // answers, each as a pointer and a length. All else is numbers and structs of numbers. Each function answers whatever the numbers, words and
 // bytes are.
+#![tactic(auto)]
 ghost use Rattle.std.specs.Prelude.{◌≡◌};
 ghost use Rattle.cache.specs.Tables.{opened};
 ghost use Rattle.numbers.specs.Explanations.{explanation_numbers};

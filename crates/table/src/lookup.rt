@@ -15,7 +15,7 @@ use layout::{HEADER, WIDTH};
 use rules::entry::Entry;
 
 // Where an address stands: its place among the rising addresses, and its row.
-#[derive(Drop)]
+#[derive(Clone, Copy)]
 pub enum Found {
     At { place: usize, row: usize },
     Nothing,

@@ -17,7 +17,7 @@ use table::header::{mode, next_number};
 use taken_list::{MOST_ROWS, bad_list};
 
 // What the tests tell, and if none passes, how many addresses the message has.
-#[derive(Drop)]
+#[derive(Clone, Copy)]
 pub struct Tested {
     pub verdict: Verdict,
     pub count: usize,

@@ -4,6 +4,8 @@
 //                               insert_at 1 x   a x b c
 //
 // A shift starts at the start of the part that it is lent, so that it compiles to one move of memory.
+#![tactic(auto)]
+
 ghost use Rattle.std.specs.Prelude.{◌≡◌, ◌++◌, ◌≤◌, ◌<◌, length, drop, replicate};
 ghost use Rattle.words.specs.Runs.{removed, inserted};
 
