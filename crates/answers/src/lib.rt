@@ -1,5 +1,6 @@
 // A refusal in the documents' numbering.
 #![tactic(auto)]
+
 ghost use Rattle.std.specs.Prelude.{◌≡◌};
 ghost use Rattle.rules.specs.Answers.{refusal_number, refusal_field};
 

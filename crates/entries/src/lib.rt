@@ -1,5 +1,6 @@
 // Entries by value: what a request does to one, and the tests that it passes.
 #![tactic(auto)]
+
 mod entry;
 mod hold;
 mod limits;

@@ -1,5 +1,6 @@
 // Lines of input: `insert ADDRESS SIZE`.
 #![tactic(auto)]
+
 mod line;
 mod number;
 

@@ -1,5 +1,6 @@
 // How the maximum changes, by value: the flash, the increase and the decrease. Every function answers at every input.
 #![tactic(auto)]
+
 ghost use Rattle.std.specs.Prelude.{◌||◌, ◌≡◌, ◌+◌, ◌-◌, min, max};
 ghost use Rattle.settings.specs.Validation.{increases, decreases};
 ghost use Rattle.rules.specs.Resizing.{flash_maximum, at_most, increased_by, at_least, lowered};

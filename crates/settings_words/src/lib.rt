@@ -16,6 +16,7 @@
 // A fraction is stored as the word of its float. The word of an absent particular is 0, so settings
 // have one picture. The functions work at the start of the part of a table that they are lent.
 #![tactic(auto)]
+
 ghost use Rattle.std.specs.Prelude.{◌≡◌, ◌++◌, ◌≤◌, length, drop};
 ghost use Rattle.settings_words.specs.Words.{settings_words};
 ghost use Rattle.settings_words.specs.FloatsFit.{FloatsFit};

@@ -1,5 +1,6 @@
 // The small setup, and the words that are lent for it.
 #![tactic(auto)]
+
 ghost use Rattle.std.specs.Prelude.{◌≡◌};
 ghost use Rattle.rules.specs.Cases.{small, small_with};
 ghost use Rattle.settings.specs.declared.Flash.TheVariants as flash;

@@ -1,5 +1,6 @@
 // A verdict, made of a request's tests from the last to the first.
 #![tactic(auto)]
+
 ghost use Rattle.std.specs.Prelude.{◌≡◌};
 ghost use Rattle.verdicts.specs.Tells.{tested_before};
 

@@ -1,7 +1,4 @@
-use Prim.Native.Nat.{◌-◌}
-use lib.ListN.{length}
-use Rattle.lines.proofs.Laws.{Matched, matching, matched, matched_on, cut_short, differed}
-use borrow.Author.Rules.{rules}
+use Rattle.lines.proofs.Laws.{matching, matched, matched_on, cut_short, differed}
 use Rattle.lines.proofs.line.begins.Goals as goal
 
 pub loop-i-init : goal.loop-i-init

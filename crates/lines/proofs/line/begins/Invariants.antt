@@ -1,8 +1,7 @@
 -- The bytes before i are the same, so what is left to compare gives what the whole gives (`Matched`). Assumes nothing.
 use Prim.Native.Nat.{◌-◌}
 use lib.ListN.{length}
-use Rattle.lines.proofs.Laws.{Matched, matching, matched, matched_on, cut_short, differed}
-use borrow.Author.Rules.{rules}
+use Rattle.lines.proofs.Laws.{Matched}
 use Rattle.lines.proofs.line.begins.Given as goal
 
 abbrev pub invariant-loop-i : goal.invariant-loop-i

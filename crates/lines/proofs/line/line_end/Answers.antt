@@ -1,9 +1,6 @@
-use Prim.Native.Nat.{◌-◌}
 use mathlib.Core.Path.{refl}
-use lib.ListN.{length}
 use native.Mathlib.Omega.{arith}
-use Rattle.lines.proofs.Laws.{Unbroken, text_ended, newline, unbroken_on}
-use borrow.Author.Rules.{rules}
+use Rattle.lines.proofs.Laws.{text_ended, newline, unbroken_on}
 use Rattle.lines.proofs.line.line_end.Goals as goal
 
 pub loop-i-init : goal.loop-i-init

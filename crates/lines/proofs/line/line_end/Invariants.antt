@@ -1,10 +1,7 @@
 -- No newline stands between the place and i, so the line's end from i on is its end from the place on (`Unbroken`). Assumes nothing.
 use Prim.Native.Nat.{◌-◌}
-use mathlib.Core.Path.{refl}
 use lib.ListN.{length}
-use native.Mathlib.Omega.{arith}
-use Rattle.lines.proofs.Laws.{Unbroken, text_ended, newline, unbroken_on}
-use borrow.Author.Rules.{rules}
+use Rattle.lines.proofs.Laws.{Unbroken}
 use Rattle.lines.proofs.line.line_end.Given as goal
 
 abbrev pub invariant-loop-i : goal.invariant-loop-i

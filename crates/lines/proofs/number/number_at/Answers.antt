@@ -1,10 +1,8 @@
 use Prim.Native.Nat.{◌+◌, ◌-◌, ◌*◌, ◌^◌}
 use mathlib.Core.Path.{sym, ◌∙◌}
-use borrow.Author.Tests.{not-true, not-false, leb-true, leb-false}
-use lib.ListN.{length}
-use Rattle.lines.proofs.Laws.{digit_range, Kept, started, ended, stopped, passed, went_on}
+use borrow.Author.Tests.{leb-true, leb-false}
+use Rattle.lines.proofs.Laws.{digit_range, started, ended, stopped, passed, went_on}
 use native.Mathlib.Omega.{arith}
-use borrow.Author.Rules.{rules}
 use Rattle.lines.proofs.number.number_at.Goals as goal
 
 pub loop-i-init : goal.loop-i-init
@@ -12,24 +10,24 @@ loop-i-init c = started c.args.s.now c.args.at c.requires
 
 pub returns-then-not-is_digit : goal.returns-then-not-is_digit
 returns-then-not-is_digit c =
-    let digit = sym c.is_digit.ensures ∙ not-true c.is_digit.result c.if-not-is_digit.true in
-    c.number_of_lem.ensures ∙ stopped c.loop-i.invariant c.loop-i-test.true (rw c.wide-b.ensures at digit)
+    let digit = sym c.is_digit.ensures ∙ c.if-not-is_digit.true in
+    c.number_of.ensures ∙ stopped c.loop-i.invariant c.loop-i-test.true (rw c.wide-b.ensures at digit)
 
 pub overflow_sub-digit : goal.overflow_sub-digit
 overflow_sub-digit c =
-    let digit = sym c.is_digit.ensures ∙ not-false c.is_digit.result c.if-not-is_digit.false in
+    let digit = sym c.is_digit.ensures ∙ c.if-not-is_digit.false in
     let range = digit_range c.wide-b.result digit in
     omega arith
 
 pub too_large-requires : goal.too_large-requires
 too_large-requires c =
-    let digit = sym c.is_digit.ensures ∙ not-false c.is_digit.result c.if-not-is_digit.false in
+    let digit = sym c.is_digit.ensures ∙ c.if-not-is_digit.false in
     let range = digit_range c.wide-b.result digit in
     omega arith
 
 pub returns-then-too_large : goal.returns-then-too_large
 returns-then-too_large c =
-    let digit = sym c.is_digit.ensures ∙ not-false c.is_digit.result c.if-not-is_digit.false in
+    let digit = sym c.is_digit.ensures ∙ c.if-not-is_digit.false in
     let large = leb-true (2 ^ 64) (c.loop-i.value * 10 + (c.wide-b.result - 48)) (sym c.too_large.ensures ∙ c.if-too_large.true) in
     passed c.loop-i.invariant c.loop-i-test.true (rw c.wide-b.ensures at digit) (rw c.wide-b.ensures at large)
 
@@ -45,7 +43,7 @@ overflow_add-value c =
 
 pub loop-i-preserved : goal.loop-i-preserved
 loop-i-preserved c =
-    let digit = sym c.is_digit.ensures ∙ not-false c.is_digit.result c.if-not-is_digit.false in
+    let digit = sym c.is_digit.ensures ∙ c.if-not-is_digit.false in
     let small = leb-false (2 ^ 64) (c.loop-i.value * 10 + (c.wide-b.result - 48)) (sym c.too_large.ensures ∙ c.if-too_large.false) in
     rw c.wide-b.ensures (went_on c.loop-i.invariant c.loop-i-test.true (rw c.wide-b.ensures at digit) (rw c.wide-b.ensures at small))
 

@@ -1,12 +1,8 @@
 -- The number from i on, after digits that count the value, is the number from the start (`Kept`); each way out of the loop is one law of it.
 -- Assumes nothing.
-use Prim.Native.Nat.{◌+◌, ◌-◌, ◌*◌, ◌^◌}
-use mathlib.Core.Path.{sym, ◌∙◌}
-use borrow.Author.Tests.{not-true, not-false, leb-true, leb-false}
+use Prim.Native.Nat.{◌-◌}
 use lib.ListN.{length}
-use Rattle.lines.proofs.Laws.{digit_range, Kept, started, ended, stopped, passed, went_on}
-use native.Mathlib.Omega.{arith}
-use borrow.Author.Rules.{rules}
+use Rattle.lines.proofs.Laws.{Kept}
 use Rattle.lines.proofs.number.number_at.Given as goal
 
 abbrev pub invariant-loop-i : goal.invariant-loop-i

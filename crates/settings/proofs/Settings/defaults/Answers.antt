@@ -1,7 +1,5 @@
 -- Each constant is the value that `defaults` names, and a literal is the nearest float. Assumes nothing.
-use mathlib.Core.Path.{refl}
 use lib.Ieee.{of_bits, round}
-use borrow.Author.Rules.{rules}
 use Rattle.settings.specs.Defaults.{defaults}
 use Rattle.settings.proofs.Settings.defaults.Goals as goal
 

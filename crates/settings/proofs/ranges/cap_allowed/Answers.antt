@@ -1,6 +1,5 @@
 -- The answer goes by the cap as `cap_allowed` does. Assumes nothing.
-use borrow.Author.Rules.{rules}
 use Rattle.settings.proofs.ranges.cap_allowed.Goals as goal
 
 pub returns-in-Upto : goal.returns-in-Upto
-returns-in-Upto c = rw c.c-1.given.1
+returns-in-Upto c = rw c.in-Upto.is

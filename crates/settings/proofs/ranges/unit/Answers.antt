@@ -1,6 +1,5 @@
 -- The literals are the nearest floats to 0 and 1. Assumes nothing.
 use lib.Ieee.{of_bits, round}
-use borrow.Author.Rules.{rules}
 use Rattle.settings.proofs.ranges.unit.Goals as goal
 
 pub returns : goal.returns

@@ -1,12 +1,11 @@
 -- The answer goes by the decrease rule as `decrease_allowed` does. Assumes nothing.
-use borrow.Author.Rules.{rules}
 use Rattle.settings.proofs.validation.decrease_allowed.Goals as goal
 
 pub returns-in-Threshold : goal.returns-in-Threshold
-returns-in-Threshold c = rw (c.unit-in-Threshold.ensures, c.unit.ensures, c.d-1.given.1)
+returns-in-Threshold c = rw (c.unit-in-Threshold.ensures, c.unit.ensures, c.in-Threshold.is)
 
 pub returns-in-AgeOut : goal.returns-in-AgeOut
-returns-in-AgeOut c = rw (c.unit-in-AgeOut.ensures, c.within.ensures, c.d-in-AgeOut-1.given.1)
+returns-in-AgeOut c = rw (c.unit-in-AgeOut.ensures, c.within.ensures, c.in-AgeOut.is)
 
 pub returns-in-AgeOutWithThreshold : goal.returns-in-AgeOutWithThreshold
-returns-in-AgeOutWithThreshold c = rw (c.unit-in-AgeOutWithThreshold-2.ensures, c.within-in-AgeOutWithThreshold.ensures, c.unit-in-AgeOutWithThreshold.ensures, c.d-in-AgeOutWithThreshold-1.given.1)
+returns-in-AgeOutWithThreshold c = rw (c.unit-in-AgeOutWithThreshold-2.ensures, c.within-in-AgeOutWithThreshold.ensures, c.unit-in-AgeOutWithThreshold.ensures, c.in-AgeOutWithThreshold.is)

@@ -1,6 +1,5 @@
 -- The answer goes by the increase rule as `rates_in_order` does. Assumes nothing.
-use borrow.Author.Rules.{rules}
 use Rattle.settings.proofs.validation.rates_in_order.Goals as goal
 
 pub returns-in-Threshold : goal.returns-in-Threshold
-returns-in-Threshold c = rw (c.below_upper.ensures, c.i-1.given.1)
+returns-in-Threshold c = rw (c.below_upper.ensures, c.in-Threshold.is)

@@ -1,0 +1,13 @@
+-- Each test that was made decides.
+use borrow.Author.Tests.{eq-eqb, ne_eqb}
+use native.Mathlib.Omega.{arith}
+use Rattle.message.proofs.feed.number_head.Goals as goal
+
+pub returns-then-place-eq0 : goal.returns-then-place-eq0
+returns-then-place-eq0 c = rw (eq-eqb _ _ c.if-place-eq0.true)
+
+pub returns-then-place-eq1 : goal.returns-then-place-eq1
+returns-then-place-eq1 c = rw (ne_eqb _ _ c.if-place-eq0.false, eq-eqb _ _ c.if-place-eq1.true)
+
+pub returns : goal.returns
+returns c = rw (ne_eqb _ _ c.if-place-eq0.false, ne_eqb _ _ c.if-place-eq1.false)

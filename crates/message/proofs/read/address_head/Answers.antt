@@ -1,0 +1,7 @@
+-- Three bytes are compared.
+use mathlib.Core.Path.{refl}
+use borrow.Author.Rules.{rules}
+use Rattle.message.proofs.read.address_head.Goals as goal
+
+pub returns : goal.returns
+returns c = refl

@@ -1,0 +1,16 @@
+-- The fields of the first i addresses stand there.
+use Prim.Native.Nat.{◌≤◌, ◌*◌, ◌-◌}
+use mathlib.Core.List.{◌++◌}
+use mathlib.Core.Path.{◌≡◌, refl, ◌∙◌}
+use lib.ListN.{length, take, drop, length-take, length-drop}
+use Rattle.rules.specs.Messages.{address_fields}
+use Rattle.message.proofs.Putting.{fields_start, fields_next, fields_end}
+use native.Mathlib.Omega.{arith}
+use borrow.Author.Rules.{rules}
+use Rattle.message.proofs.write.put_addresses.Given as goal
+
+abbrev pub invariant-loop-i : goal.invariant-loop-i
+invariant-loop-i l = (l.i ≤ length l.list) × (length l.part ≡ length l.initial.part) × (l.part ≡ address_fields (take l.i l.list) ++ drop (l.i * 11) l.initial.part)
+
+abbrev pub decreases-loop-i : goal.decreases-loop-i
+decreases-loop-i l = length l.list - l.i

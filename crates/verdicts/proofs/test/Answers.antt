@@ -1,0 +1,6 @@
+-- A test that passes decides.
+use borrow.Author.Rules.{rules}
+use Rattle.verdicts.proofs.test.Goals as goal
+
+pub returns-then-passes : goal.returns-then-passes
+returns-then-passes c = rw c.if-passes.true
