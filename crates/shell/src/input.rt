@@ -41,6 +41,7 @@ fn run_line(rt: &impl Print, table: &mut Table, orders: &mut Orders, s: &[u8]) -
 }
 
 // Runs the lines that end within a text, and answers where the unfinished one starts.
+#[tactic(auto, using(lines::proofs::Laws::line_within))]
 fn run_lines(
     rt: &impl Print,
     table: &mut Table,
