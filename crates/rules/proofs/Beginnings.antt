@@ -1,7 +1,7 @@
 -- One message has one numbered list: the bytes that lead to a reader are known from it, and at the end they are the message. Bytes that end
 -- early are the beginning of one, and where they are malformed, some byte is the first after which none goes on.
 use Prim.Native.Nat.{ℕ, zero, suc, ◌+◌, ◌*◌, ◌-◌, ◌/◌, ◌%◌, ◌<◌, ◌≤◌}
-use mathlib.Core.Path.{◌≡◌, refl, sym, ap, ap₂, subst, ◌∙◌}
+use mathlib.Core.Path.{◌≡◌, refl, sym, ap, subst, ◌∙◌}
 use mathlib.Core.Bool.{Bool, true, false, false≢true, true≢false}
 use mathlib.Core.List.{List, [], ◌∷◌, ◌++◌, append_assoc, append-nil}
 use native.Mathlib.Omega.{arith}
@@ -9,8 +9,8 @@ use lib.Dec.{eqb, ltb}
 use lib.ListN.{length, length-append}
 use borrow.Author.Tests.{lt-ltb, le-ltb, ltb-true, ltb-false, eqb-true, ne_eqb}
 use Rattle.rules.specs.Entries.{if◌then◌else◌}
-use Rattle.rules.specs.Messages.{bytes_of, address_fields, message_of, Bytes, IsMessage, Unfinished, Begins, WrongAt, Reader, Reading, going, wrong, fresh_reader, feed, feed_on, feed_all, power256, Message, right, early, malformed, message_in, read_message, is_malformed, is_early}
-use Rattle.rules.proofs.Messages.{feed_append, never_wrong, malformed_wrong}
+use Rattle.rules.specs.Messages.{bytes_of, address_fields, message_of, Bytes, IsMessage, Unfinished, Begins, WrongAt, Reader, Reading, going, wrong, fresh_reader, feed, feed_all, power256, Message, right, early, malformed, message_in, read_message, is_malformed, is_early}
+use Rattle.rules.proofs.Messages.{feed_append, never_wrong}
 use Rattle.rules.proofs.Readers.{read_within}
 use Rattle.rules.proofs.Tests.{split, choose}
 

@@ -7,7 +7,6 @@ use Rattle.settings.specs.declared.Mode.{Mode}
 use Rattle.rules.specs.Allowed.{Sound}
 use Rattle.rules.specs.Cache.{Cache, fresh}
 use Rattle.rules.specs.History.{Past, past, next, added, Balanced}
-use Rattle.rules.specs.Hosts.{accepted}
 use Rattle.rules.specs.Refusals.{Call, refusal_of}
 use Rattle.rules.proofs.Effects.{effects}
 use Rattle.rules.proofs.Kept.{step_sound}

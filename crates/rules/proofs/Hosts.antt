@@ -1,7 +1,7 @@
 -- Demand 3: after any run a lead and a standby have the dirty records, the sizes and the count of the ledger, and say alike whether a list
 -- is due; and the standby takes every message that was sent, in the order of their numbers, and none of them again. By induction on the run:
 -- each host keeps the ledger, and the number of the next message, as far as it has heard.
-use Prim.Native.Nat.{ℕ, suc, ◌+◌, ◌≤◌}
+use Prim.Native.Nat.{ℕ, suc, ◌≤◌}
 use mathlib.Core.Path.{◌≡◌, refl, sym, ap, ap₂, subst, ◌∙◌}
 use mathlib.Core.Bool.{Bool, true, false, not, ◌&&◌, ◌||◌, false≢true, true≢false}
 use mathlib.Core.Option.{Option, none, some, some-ne-none}
@@ -23,7 +23,7 @@ use Rattle.rules.specs.declared.request.Request.{Request}
 use Rattle.rules.specs.declared.request.Request.TheVariants.{Flush, Sync, Take}
 use Rattle.rules.specs.Addresses.{elem, twice, some_address}
 use Rattle.rules.specs.Allowed.{Allowed}
-use Rattle.rules.specs.Cache.{Cache, fresh, due}
+use Rattle.rules.specs.Cache.{Cache, fresh}
 use Rattle.rules.specs.Hosts.{accepted, asking, message_by, Pending, settled, change, sent, heard, hear_message, Run, opened, local, refuses, begins, ends, sends, takes, Agree, sent_in, taken_in, InOrder, Each}
 use Rattle.rules.specs.Kept.{number_after}
 use Rattle.rules.specs.Ledger.{Ledger, blank, Shared, insert, changed, resize, discard, Local, protect, unchanged, pin, unpin, configure, Sends, flush, sync, hear_list, is_in, dirty_size, ledger_of, sent_by}

@@ -1,16 +1,14 @@
 -- What bytes lead to is within its limits.
-use Prim.Native.Nat.{ℕ, suc, ◌+◌, ◌*◌, ◌-◌, ◌<◌, ◌≤◌, min}
-use mathlib.Core.Path.{◌≡◌, refl, sym, ap, subst, ◌∙◌}
-use mathlib.Core.Bool.{Bool, true, false}
+use Prim.Native.Nat.{ℕ, suc, ◌+◌, ◌*◌, ◌-◌, ◌<◌, ◌≤◌}
+use mathlib.Core.Path.{◌≡◌, sym, subst, ◌∙◌}
 use mathlib.Core.List.{List, [], ◌∷◌, ◌++◌}
 use native.Mathlib.Omega.{arith}
 use lib.Dec.{eqb, ltb}
 use lib.ListN.{length, length-append}
 use borrow.Author.Tests.{lt-ltb, le-ltb, ltb-true, ltb-false, eqb-true, eqb-false}
-use Rattle.rules.specs.Entries.{if◌then◌else◌}
 use Rattle.rules.specs.Limits.{last_number}
-use Rattle.rules.specs.Messages.{Words, Bytes, Reader, Reading, going, wrong, fresh_reader, move_to, must, tag, number_byte, count_byte, address_byte, last_byte, feed, feed_on, feed_all, power256, part_bytes, bytes_from, Within}
-use Rattle.rules.proofs.Tests.{split, choose}
+use Rattle.rules.specs.Messages.{Words, Bytes, Reader, Reading, going, wrong, fresh_reader, must, tag, number_byte, count_byte, address_byte, last_byte, feed, feed_all, power256, part_bytes, bytes_from, Within}
+use Rattle.rules.proofs.Tests.{choose}
 
 abbrev pub WithinAt : Reading → Type 0
 WithinAt (going r) = Within r

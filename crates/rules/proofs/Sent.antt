@@ -1,7 +1,7 @@
 -- The list that a flush or a sync sends: each address once, and of a dirty record. A write makes its record clean, so none is written twice.
 use Prim.Native.Nat.{ℕ}
 use mathlib.Core.Path.{◌≡◌, refl, sym, ap, subst, ◌∙◌}
-use mathlib.Core.Bool.{Bool, true, false, not, ◌&&◌, ◌||◌, false≢true, true≢false}
+use mathlib.Core.Bool.{Bool, true, false, ◌&&◌, ◌||◌, false≢true, true≢false}
 use mathlib.Core.Option.{Option, none}
 use mathlib.Core.List.{List, [], ◌∷◌, ◌++◌, map}
 use lib.Dec.{eqb, ltb}
@@ -15,7 +15,7 @@ use Rattle.rules.specs.Cache.{Cache, Work, start}
 use Rattle.rules.specs.Entries.{if◌then◌else◌}
 use Rattle.rules.specs.Ledger.{Sends, flush, sync, hear_list, names, is_in, dirty_size, ledger_of}
 use Rattle.rules.specs.Requests.{effect, writes_of}
-use Rattle.rules.specs.Room.{write, write_in_place, write_dirty, share_missing}
+use Rattle.rules.specs.Room.{write_in_place, write_dirty, share_missing}
 use Rattle.rules.specs.Rows.{get, dirty_at, dirty_rising}
 use Rattle.rules.proofs.Follow.{same_ledger, dirty_in_same, sizes_cleaned, takes_list}
 use Rattle.rules.proofs.Lists.{twice_last}

@@ -1,5 +1,5 @@
 -- How the maximum changes: the flash, and the end of an epoch.
-use Rattle.std.specs.Prelude.{ℕ, ◌+◌, ◌-◌, min, max, Bool, false, not, ◌&&◌, ◌||◌, List, [], ◌∷◌, leb, ltb, Float}
+use Rattle.std.specs.Prelude.{ℕ, ◌+◌, ◌-◌, min, max, Bool, false, ◌&&◌, ◌||◌, List, [], ◌∷◌, leb, ltb, Float}
 use Rattle.std.specs.Float.Ieee.{lt, eq}
 use Rattle.fraction.specs.Fraction.{decimal, size_product, hit_rate, reserve_quotient, exceeds_share}
 use Rattle.settings.specs.declared.Cap.{Cap}

@@ -1,5 +1,5 @@
 -- Document 01's test of the clean share, which says yes or no, and the pass by it.
-use Rattle.std.specs.Prelude.{ℕ, ◌+◌, Bool, true, false, not, ◌&&◌, List, [], ◌∷◌, leb}
+use Rattle.std.specs.Prelude.{ℕ, ◌+◌, Bool, not, ◌&&◌, List, [], ◌∷◌, leb}
 use Rattle.rules.specs.Cache.{Cache, Work, recency_list, minimum_clean}
 use Rattle.rules.specs.Entries.{if◌then◌else◌}
 use Rattle.rules.specs.Room.{clean_bytes, unused_bytes, write_in_place}

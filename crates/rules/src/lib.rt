@@ -2,6 +2,7 @@
 //
 // What each request answers, leaves and orders is defined over these types in specs/.
 #![tactic(auto)]
+
 pub mod answer;
 pub mod entry;
 pub mod order;

@@ -7,7 +7,6 @@ use mathlib.Core.Path.{◌≡◌, refl, sym, ap, ◌∙◌}
 use Rattle.rules.specs.declared.answer.Refusal.{Refusal}
 use Rattle.rules.specs.declared.request.Request.{Request}
 use Rattle.rules.specs.Cache.{Cache}
-use Rattle.rules.specs.Entries.{if◌then◌else◌}
 use Rattle.rules.specs.Hosts.{asking}
 use Rattle.rules.specs.Refusals.{Test, first_of, tests, refusal_of}
 use Rattle.rules.specs.Answers.{verdict_of}

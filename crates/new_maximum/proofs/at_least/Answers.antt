@@ -1,5 +1,4 @@
 -- `resize::at_least` meets its contract, by the cases of the cap.
-use borrow.Author.Rules.{rules}
 use Rattle.new_maximum.proofs.at_least.Goals as goal
 
 pub returns-in-Upto : goal.returns-in-Upto

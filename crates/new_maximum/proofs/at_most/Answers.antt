@@ -1,6 +1,5 @@
 -- `resize::at_most` meets its contract, by the cases of the cap; the sum is bounded before it is made.
 use native.Mathlib.Omega.{arith}
-use borrow.Author.Rules.{rules}
 use Rattle.new_maximum.proofs.at_most.Goals as goal
 
 pub returns-in-Upto : goal.returns-in-Upto

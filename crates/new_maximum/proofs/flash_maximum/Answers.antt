@@ -1,5 +1,4 @@
 -- `resize::flash_maximum` meets its contract, by the cases of the rule and of its test.
-use borrow.Author.Rules.{rules}
 use Rattle.new_maximum.proofs.flash_maximum.Goals as goal
 
 pub returns-then-exceeds_share : goal.returns-then-exceeds_share

@@ -1,5 +1,4 @@
 -- `resize::increased` meets its contract, by the cases of the rule and of its test.
-use borrow.Author.Rules.{rules}
 use Rattle.new_maximum.proofs.increased.Goals as goal
 
 pub returns-then-rate-lower : goal.returns-then-rate-lower

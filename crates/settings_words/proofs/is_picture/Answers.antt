@@ -1,6 +1,5 @@
 -- The settings of the words are judged, and their own words are compared, as `picture` says. Assumes nothing.
 use Rattle.settings_words.specs.Picture.{picture}
-use borrow.Author.Rules.{rules}
 use Rattle.settings_words.proofs.is_picture.Goals as goal
 
 pub returns : goal.returns

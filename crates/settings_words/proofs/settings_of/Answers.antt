@@ -1,6 +1,5 @@
 -- Each field is read from its words as `settings_of` reads it. Assumes nothing.
 use Rattle.settings_words.specs.Picture.{settings_of}
-use borrow.Author.Rules.{rules}
 use Rattle.settings_words.proofs.settings_of.Goals as goal
 
 pub float_of-clean-requires : goal.float_of-clean-requires

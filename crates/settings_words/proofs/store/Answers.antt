@@ -1,7 +1,6 @@
 -- The 21 words of the settings are copied to the start. Assumes nothing.
 use mathlib.Core.Path.{◌∙◌}
 use Rattle.settings_words.proofs.Flat.{words_length}
-use borrow.Author.Rules.{rules}
 use Rattle.settings_words.proofs.store.Goals as goal
 
 pub returns : goal.returns

@@ -1,6 +1,5 @@
 -- The array has the words of each part one by one, and its floats fit since the words of each were made. Assumes nothing.
 use Rattle.settings_words.proofs.Flat.{laid}
-use borrow.Author.Rules.{rules}
 use Rattle.settings_words.proofs.words_of.Goals as goal
 
 pub increase_words-i-requires : goal.increase_words-i-requires

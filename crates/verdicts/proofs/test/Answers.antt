@@ -1,5 +1,4 @@
 -- A test that passes decides.
-use borrow.Author.Rules.{rules}
 use Rattle.verdicts.proofs.test.Goals as goal
 
 pub returns-then-passes : goal.returns-then-passes

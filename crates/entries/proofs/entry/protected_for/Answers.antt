@@ -1,5 +1,4 @@
 -- `entries::entry::protected_for` meets its contract, by what `joined` gives.
-use borrow.Author.Rules.{rules}
 use Rattle.entries.proofs.entry.protected_for.Goals as goal
 
 pub returns : goal.returns

@@ -1,5 +1,4 @@
 -- `entries::entry::released` meets its contract, by what `less_one` and `idle_after` give.
-use borrow.Author.Rules.{rules}
 use Rattle.entries.proofs.entry.released.Goals as goal
 
 pub returns : goal.returns

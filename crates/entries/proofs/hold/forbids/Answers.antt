@@ -1,5 +1,4 @@
 -- `entries::hold::forbids` meets its contract, by the cases of the hold.
-use borrow.Author.Rules.{rules}
 use Rattle.entries.proofs.hold.forbids.Goals as goal
 
 pub returns-in-Readers : goal.returns-in-Readers

@@ -1,5 +1,4 @@
 -- `entries::hold::forbids_beside` meets its contract, by the cases of the access.
-use borrow.Author.Rules.{rules}
 use Rattle.entries.proofs.hold.forbids_beside.Goals as goal
 
 pub returns-in-Reading : goal.returns-in-Reading

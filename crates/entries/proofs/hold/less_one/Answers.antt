@@ -1,5 +1,4 @@
 -- `entries::hold::less_one` meets its contract, by the cases of the hold.
-use borrow.Author.Rules.{rules}
 use Rattle.entries.proofs.hold.less_one.Goals as goal
 
 pub returns-in-Readers : goal.returns-in-Readers

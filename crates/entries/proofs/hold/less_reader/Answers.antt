@@ -1,6 +1,5 @@
 -- `entries::hold::less_reader` meets its contract, either way that its test comes out.
 use borrow.Author.Tests.{le-leb, lt-leb}
-use borrow.Author.Rules.{rules}
 use Rattle.entries.proofs.hold.less_reader.Goals as goal
 
 pub returns-then-n-le1 : goal.returns-then-n-le1

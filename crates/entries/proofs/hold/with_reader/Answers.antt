@@ -2,7 +2,6 @@
 use mathlib.Core.Path.{subst}
 use Rattle.rules.specs.Allowed.{HoldAllowed}
 use native.Mathlib.Omega.{arith}
-use borrow.Author.Rules.{rules}
 use Rattle.entries.proofs.hold.with_reader.Goals as goal
 
 pub overflow_add-result : goal.overflow_add-result

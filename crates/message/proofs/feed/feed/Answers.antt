@@ -17,7 +17,7 @@ pub returns-then-place-lt11 : goal.returns-then-place-lt11
 returns-then-place-lt11 c = feeds_by (feed c.args.byte) (λ list. at_number c.args.byte (having list c.args.r) c.if-place-lt3.false c.if-place-lt11.true) c.number_byte.ensures
 
 pub returns-then-place-lt14 : goal.returns-then-place-lt14
-returns-then-place-lt14 c = feeds_by (feed c.args.byte) (λ list. at_count_head c.args.byte (having list c.args.r) c.if-place-lt11.false c.if-place-lt14.true) (rw c.count_Head.ensures at c.expect-then-place-lt14.ensures)
+returns-then-place-lt14 c = feeds_by (feed c.args.byte) (λ list. at_count_head c.args.byte (having list c.args.r) c.if-place-lt11.false c.if-place-lt14.true) (rw c.count_head.ensures at c.expect-then-place-lt14.ensures)
 
 pub count_byte-requires : goal.count_byte-requires
 count_byte-requires c = (omega arith, omega arith, count_small c.requires (omega arith))

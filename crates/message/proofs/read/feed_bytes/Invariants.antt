@@ -1,6 +1,7 @@
 -- The first i bytes are read.
 use Prim.Native.Nat.{◌≤◌, ◌-◌}
 use mathlib.Core.Path.{◌≡◌}
+use Rattle.message.specs.Reads.{after, Reads}
 use Rattle.message.proofs.Whole.{reads_sound, reads_on, wrong_on}
 use native.Mathlib.Omega.{arith}
 use borrow.Author.Rules.{rules}

@@ -2,13 +2,14 @@
 use Prim.Native.Nat.{◌≤◌, ◌+◌, ◌*◌, ◌-◌}
 use mathlib.Core.Path.{◌≡◌, refl, sym, ◌∙◌}
 use borrow.Author.Tests.{not-false}
+use Rattle.message.specs.Reads.{after, Reads}
 use Rattle.message.proofs.Whole.{reads_sound, reads_field, reads_past}
 use native.Mathlib.Omega.{arith}
 use borrow.Author.Rules.{rules}
 use Rattle.message.proofs.read.read_fields.Given as goal
 
 abbrev pub invariant-loop-taken : goal.invariant-loop-taken
-invariant-loop-taken l = (l.r.taken ≤ l.taken) × (l.taken ≤ l.end) × (l.at ≡ l.from + (l.taken - l.r.taken) * 11) × Reads (after l.at l.bytes) (record { place = l.r.place; number = l.r.number; count = l.r.count; part = l.r.part; l.taken = l.taken; l.ones = l.ones }) l.addresses
+invariant-loop-taken l = (l.r.taken ≤ l.taken) × (l.taken ≤ l.end) × (l.at ≡ l.from + (l.taken - l.r.taken) * 11) × Reads (after l.at l.bytes) (record { place = l.r.place; number = l.r.number; count = l.r.count; part = l.r.part; taken = l.taken; ones = l.ones }) l.addresses
 
 abbrev pub decreases-loop-taken : goal.decreases-loop-taken
 decreases-loop-taken l = l.end - l.taken

@@ -1,5 +1,4 @@
 -- The answer goes by the cap as `cap_words` does. Assumes nothing.
-use borrow.Author.Rules.{rules}
 use Rattle.settings_words.proofs.parts.cap_words.Goals as goal
 
 pub returns-in-Upto : goal.returns-in-Upto

@@ -1,6 +1,5 @@
 -- The answer goes by the kind as `flash_of` does. Assumes nothing.
 use borrow.Author.Tests.{eq-eqb, ne_eqb}
-use borrow.Author.Rules.{rules}
 use Rattle.settings_words.proofs.parts.flash_of.Goals as goal
 
 pub returns-then-kind-eq0 : goal.returns-then-kind-eq0

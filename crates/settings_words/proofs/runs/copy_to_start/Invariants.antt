@@ -1,13 +1,8 @@
 -- At the loop's head the first `i` words are those of `src`, and the others stand as they were. Assumes nothing.
-use Prim.Native.Nat.{ℕ, suc, ◌≤◌, ◌<◌, ◌-◌}
-use native.Mathlib.Nat.{le_of_lt, le_antisymm}
-use native.Mathlib.Numerals.{add-one}
-use native.Mathlib.Omega.{arith}
-use mathlib.Core.Path.{◌≡◌, refl, sym, ◌∙◌}
-use mathlib.Core.List.{List, ◌++◌}
-use lib.ListN.{length, take, drop, get_or, set, length-set}
-use lib.Seq.{drop-cons, set_at, append_snoc, take-suc, length-take-le, take-length}
-use borrow.Author.Rules.{rules}
+use Prim.Native.Nat.{◌≤◌, ◌-◌}
+use mathlib.Core.Path.{◌≡◌}
+use mathlib.Core.List.{◌++◌}
+use lib.ListN.{length, take, drop}
 use Rattle.settings_words.proofs.runs.copy_to_start.Given as goal
 
 abbrev pub invariant-loop-i : goal.invariant-loop-i
