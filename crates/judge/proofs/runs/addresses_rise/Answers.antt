@@ -31,6 +31,6 @@ loop-i-preserved c = rw c.words_at-next.ensures (kept_on _ _ _ _ c.loop-i.invari
 
 pub returns : goal.returns
 returns c = record {
-  sound = λ t. kept_end _ _ _ _ c.loop-i.invariant (omega arith) (λ j. omega (arith, c.shared_slice_known-1.given j)) (search told);
+  sound = λ t. kept_end _ _ _ _ c.loop-i.invariant (omega arith) (λ j. omega (arith, c.type_inv.table j)) (search told);
   complete = λ p. rw (ne_eqb _ _ (last_fits _ _ _ _ c.loop-i.invariant (omega arith) p));
 }
