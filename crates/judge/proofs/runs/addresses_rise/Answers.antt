@@ -1,11 +1,9 @@
-use Prim.Native.Nat.{◌-◌}
 use mathlib.Core.Path.{ap}
 use native.Mathlib.Omega.{arith}
 use borrow.Author.Tests.{ne_eqb}
-use borrow.Author.Rules.{rules}
 use Rattle.judge.specs.declared.row.RowWords.{RowWords}
 use Rattle.judge.proofs.Says.{told}
-use Rattle.judge.proofs.Ascending.{Kept, kept_start, kept_on, says_none, says_past, says_free, says_fall, kept_end, last_fits}
+use Rattle.judge.proofs.Ascending.{kept_start, kept_on, says_none, says_past, says_free, says_fall, kept_end, last_fits}
 use Rattle.judge.proofs.runs.addresses_rise.Goals as goal
 
 pub returns-then-n-eq0 : goal.returns-then-n-eq0
