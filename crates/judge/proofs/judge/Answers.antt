@@ -1,7 +1,5 @@
 -- `judge` gives the verdict on the table's words: it answers whether each part fits, and the words fit exactly where the verdict is true.
 use native.Mathlib.Omega.{arith}
-use borrow.Author.Tests.{not-true, not-false}
-use borrow.Author.Rules.{rules}
 use Rattle.judge.proofs.Says.{says_no, says_by, denies}
 use Rattle.judge.proofs.Parts.{from_settings}
 use Rattle.judge.proofs.Verdicts.{answered}

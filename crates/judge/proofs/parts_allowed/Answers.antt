@@ -2,8 +2,6 @@
 -- its mark stands there as it is to; and each run has as many words as rows are to stand in it.
 use mathlib.Core.Path.{refl}
 use native.Mathlib.Omega.{arith}
-use borrow.Author.Tests.{not-true, not-false}
-use borrow.Author.Rules.{rules}
 use Rattle.judge.proofs.Says.{says_no, denies}
 use Rattle.judge.proofs.RunWords.{below_of}
 use Rattle.judge.proofs.Parts.{none_seen, counted_of, says_parts}

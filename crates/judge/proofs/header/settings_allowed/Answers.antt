@@ -1,7 +1,5 @@
 -- `settings_allowed` says whether the words are a picture of settings and the figures fit them.
 use mathlib.Core.Path.{sym, ◌∙◌}
-use borrow.Author.Tests.{not-true, not-false}
-use borrow.Author.Rules.{rules}
 use Rattle.judge.proofs.Says.{no, says_no, says_by}
 use Rattle.judge.proofs.header.settings_allowed.Goals as goal
 

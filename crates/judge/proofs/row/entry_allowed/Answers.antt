@@ -6,7 +6,7 @@ use Rattle.judge.proofs.row.entry_allowed.Goals as goal
 
 pub returns-then-not-row : goal.returns-then-not-row
 returns-then-not-row c =
-    says_no (λ p. no _ refl (rw (le-leb _ _ p.dirty, le-leb _ _ p.idle, le-leb _ _ p.pinned, le-leb _ _ p.hold) at c.if-not-row.true))
+    says_no (λ p. no _ (rw (le-leb _ _ p.dirty, le-leb _ _ p.idle, le-leb _ _ p.pinned, le-leb _ _ p.hold) at c.if-not-row.true) refl)
 
 pub returns : goal.returns
 returns c =

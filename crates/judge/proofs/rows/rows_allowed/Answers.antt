@@ -1,13 +1,12 @@
-use Prim.Native.Nat.{◌-◌, ◌≤◌}
+use Prim.Native.Nat.{◌≤◌}
 use mathlib.Core.Path.{◌≡◌}
-use mathlib.Core.Logic.{⊎_elim}
 use native.Mathlib.Omega.{arith}
-use borrow.Author.Tests.{eq-eqb, not-true, not-false}
-use borrow.Author.Rules.{rules}
-use Rattle.judge.specs.Fits.{CountedRows, mark_at}
+use borrow.Author.Tests.{eq-eqb}
+use Rattle.judge.specs.Fits.{mark_at}
 use Rattle.judge.proofs.Says.{says_no, denies, told}
 use Rattle.judge.proofs.Counting.{counted_none, few_used, few_marked, counted_entry, counted_free, counted_as, same_used, same_marked, entry_of, free_of}
 use Rattle.judge.proofs.RowWords.{flag_low}
+use Rattle.judge.proofs.rows.rows_allowed.Goals.{then-size_allowed+else-not-entry_allowed, else-size_allowed+else-not-free_allowed}
 use Rattle.judge.proofs.rows.rows_allowed.Goals as goal
 
 pub loop-i-init : goal.loop-i-init
@@ -37,10 +36,10 @@ overflow_add-marks c =
 pub loop-i-preserved : goal.loop-i-preserved
 loop-i-preserved c = (
   omega arith,
-  ⊎_elim
-      (λ w. counted_entry c.loop-i.invariant.1 c.flag_word.ensures (rw (← c.words_at-row.ensures) (w.1.ensures.sound (not-false _ w.2.left))) w.3)
-      (λ w. counted_free c.loop-i.invariant.1 c.flag_word.ensures (rw (← c.words_at-row.ensures) (w.1.ensures.sound (not-false _ w.2.left))) w.3)
-      c.if-size_allowed.branch,
+  elim c.if-size_allowed.branch [
+    | then-size_allowed+else-not-entry_allowed w ↦ counted_entry c.loop-i.invariant.1 c.flag_word.ensures (rw (← c.words_at-row.ensures) (w.entry_allowed.ensures.sound w.if-not-entry_allowed.false)) w.entries-is
+    | else-size_allowed+else-not-free_allowed w ↦ counted_free c.loop-i.invariant.1 c.flag_word.ensures (rw (← c.words_at-row.ensures) (w.free_allowed.ensures.sound w.if-not-free_allowed.false)) w.entries-is
+  ],
 )
 
 pub returns : goal.returns

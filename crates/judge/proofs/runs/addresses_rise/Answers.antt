@@ -1,11 +1,9 @@
-use Prim.Native.Nat.{◌-◌}
 use mathlib.Core.Path.{ap}
 use native.Mathlib.Omega.{arith}
 use borrow.Author.Tests.{ne_eqb}
-use borrow.Author.Rules.{rules}
 use Rattle.judge.specs.declared.row.RowWords.{RowWords}
 use Rattle.judge.proofs.Says.{told}
-use Rattle.judge.proofs.Ascending.{Kept, kept_start, kept_on, says_none, says_past, says_free, says_fall, kept_end, last_fits}
+use Rattle.judge.proofs.Ascending.{kept_start, kept_on, says_none, says_past, says_free, says_fall, kept_end, last_fits}
 use Rattle.judge.proofs.runs.addresses_rise.Goals as goal
 
 pub returns-then-n-eq0 : goal.returns-then-n-eq0
@@ -31,6 +29,6 @@ loop-i-preserved c = rw c.words_at-next.ensures (kept_on _ _ _ _ c.loop-i.invari
 
 pub returns : goal.returns
 returns c = record {
-  sound = λ t. kept_end _ _ _ _ c.loop-i.invariant (omega arith) (λ j. omega (arith, c.shared_slice_known-1.given j)) (search told);
+  sound = λ t. kept_end _ _ _ _ c.loop-i.invariant (omega arith) (λ j. omega (arith, c.type_inv.table j)) (search told);
   complete = λ p. rw (ne_eqb _ _ (last_fits _ _ _ _ c.loop-i.invariant (omega arith) p));
 }

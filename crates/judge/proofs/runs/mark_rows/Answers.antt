@@ -1,7 +1,5 @@
-use Prim.Native.Nat.{◌-◌}
 use native.Mathlib.Omega.{arith}
-use borrow.Author.Rules.{rules}
-use Rattle.judge.proofs.Marking.{Kept, kept_start, kept_on, says_high, says_all}
+use Rattle.judge.proofs.Marking.{kept_start, kept_on, says_high, says_all}
 use Rattle.judge.proofs.runs.mark_rows.Goals as goal
 
 pub loop-i-init : goal.loop-i-init

@@ -1,8 +1,6 @@
 -- `mark_rows` says whether the words are numbers of rows, and marks these. The invariant is `Kept`: so it is up to the word at hand.
 use Prim.Native.Nat.{◌-◌}
-use native.Mathlib.Omega.{arith}
-use borrow.Author.Rules.{rules}
-use Rattle.judge.proofs.Marking.{Kept, kept_start, kept_on, says_high, says_all}
+use Rattle.judge.proofs.Marking.{Kept}
 use Rattle.judge.proofs.runs.mark_rows.Given as goal
 
 abbrev pub invariant-loop-i : goal.invariant-loop-i
