@@ -12,6 +12,6 @@ make_room-made-requires c =
 pub returns : goal.returns
 returns c =
     let d = cache_in c.args.table.now in
-    let f = (c.flash-change.ensures.holds, c.flash-change.ensures.change) in
-    let m = (c.make_room-made.ensures.did, c.make_room-made.ensures.named) in
-    record { did = room_made_whole c.args.size d f.0 m.0; named = (room_reasons_told c.args.size d f.0 m.1, f.1) }
+    let f = c.flash-change.ensures in
+    let m = c.make_room-made.ensures in
+    record { did = room_made_whole c.args.size d f.holds m.did; named = (room_reasons_told c.args.size d f.holds m.named, f.change) }

@@ -48,7 +48,7 @@ pub overflow_add-given : goal.overflow_add-given
 overflow_add-given c =
     let l = c.loop-pos in
     let k = l.invariant.0 in
-    omega (arith, k.kept.fits, l.invariant.2, c.well-formed.1.0, evicts_one k (omega arith) (is_not c.dirty_at.ensures (ap not c.if-not-dirty_at.true)))
+    omega (arith, k.kept.fits, l.invariant.2, c.well_formed.1.0, evicts_one k (omega arith) (is_not c.dirty_at.ensures (ap not c.if-not-dirty_at.true)))
 
 pub overflow_sub-listed : goal.overflow_sub-listed
 overflow_sub-listed c = omega arith
@@ -76,7 +76,7 @@ pub overflow_add-given-then-writes : goal.overflow_add-given-then-writes
 overflow_add-given-then-writes c =
     let l = c.loop-pos in
     let k = l.invariant.0 in
-    omega (arith, k.kept.fits, l.invariant.2, c.well-formed.1.0, writes_one k (omega arith) (is_so c.dirty_at.ensures (ap not c.if-not-dirty_at.false)))
+    omega (arith, k.kept.fits, l.invariant.2, c.well_formed.1.0, writes_one k (omega arith) (is_so c.dirty_at.ensures (ap not c.if-not-dirty_at.false)))
 
 pub loop-pos-smaller-then-writes : goal.loop-pos-smaller-then-writes
 loop-pos-smaller-then-writes c =

@@ -39,5 +39,4 @@ end_epoch-requires c =
 pub returns : goal.returns
 returns c =
     let on = sym (counts_is (cache_in c.args.table.now) c.settings-s.result c.increases.result c.decreases.result c.settings-s.ensures c.increases.ensures c.decreases.ensures) ∙ c.if-not-increases-decreases.false in
-    let c.decreases = (c.end_epoch.ensures.did, c.end_epoch.ensures.named) in
-    record { did = count_due c.args.hit (cache_in c.args.table.now) (c.accesses-n.result + 1) (c.hits.result + c.one_if.result) (ap (λ (x : ℕ). x + 1) c.accesses-n.ensures) (ap₂ (λ (x y : ℕ). x + y) c.hits.ensures c.one_if.ensures) c.set_counters.ensures on (omega (arith, ap (λ (x : Settings). x.epoch) c.settings-s.ensures, c.if-n-s.false)) c.decreases.0;  named = counted_due c.args.hit (cache_in c.args.table.now) (c.accesses-n.result + 1) (c.hits.result + c.one_if.result) (ap (λ (x : ℕ). x + 1) c.accesses-n.ensures) (ap₂ (λ (x y : ℕ). x + y) c.hits.ensures c.one_if.ensures) c.set_counters.ensures on (omega (arith, ap (λ (x : Settings). x.epoch) c.settings-s.ensures, c.if-n-s.false)) c.decreases.1.0 c.decreases.1.1; }
+    record { did = count_due c.args.hit (cache_in c.args.table.now) (c.accesses-n.result + 1) (c.hits.result + c.one_if.result) (ap (λ (x : ℕ). x + 1) c.accesses-n.ensures) (ap₂ (λ (x y : ℕ). x + y) c.hits.ensures c.one_if.ensures) c.set_counters.ensures on (omega (arith, ap (λ (x : Settings). x.epoch) c.settings-s.ensures, c.if-n-s.false)) c.end_epoch.ensures.did;  named = counted_due c.args.hit (cache_in c.args.table.now) (c.accesses-n.result + 1) (c.hits.result + c.one_if.result) (ap (λ (x : ℕ). x + 1) c.accesses-n.ensures) (ap₂ (λ (x y : ℕ). x + y) c.hits.ensures c.one_if.ensures) c.set_counters.ensures on (omega (arith, ap (λ (x : Settings). x.epoch) c.settings-s.ensures, c.if-n-s.false)) c.end_epoch.ensures.named.0 c.end_epoch.ensures.named.1; }

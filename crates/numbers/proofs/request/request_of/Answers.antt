@@ -18,7 +18,7 @@ returns-in-13 c = rw (c.in-13.is, c.settings_of.ensures)
 pub returns-in_default : goal.returns-in_default
 unfolding asked_of_raw plain_of
 returns-in_default c =
-    let r = c.in_default.rest in
+    let r = c.in_default.in_default-own.rest in
     let w = c.args.w in
     let s = settings_of_raw w.settings in
     c.plain_request.ensures
