@@ -1,5 +1,6 @@
 // Configure, where it is not refused: new settings, the maximum they give, and room for nothing.
 #![tactic(auto)]
+
 ghost use Rattle.std.specs.Prelude.{◌≡◌, false, [], length};
 ghost use Rattle.settings.specs.Validation.{first_bad};
 ghost use Rattle.rules.specs.declared.request.Request.TheVariants.{Configure};

@@ -1,5 +1,6 @@
 // Insert, where it is not refused.
 #![tactic(auto)]
+
 ghost use Rattle.std.specs.Prelude.{◌≡◌, true, false, [], length};
 ghost use Rattle.std.proofs.Math.Option.{none};
 ghost use Rattle.rules.specs.declared.request.Request.TheVariants.{Insert};

@@ -3,6 +3,7 @@
 // Flush and sync do the work of a request that is not refused. Take has its tests with it, since they find the rows that its work
 // needs.
 #![tactic(auto)]
+
 pub mod flush;
 mod number;
 pub mod sync;

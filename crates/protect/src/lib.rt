@@ -1,5 +1,6 @@
 // Protect, where it is not refused: a hit takes the hold, a miss loads the entry; then the access is counted.
 #![tactic(auto)]
+
 ghost use Rattle.std.specs.Prelude.{◌≡◌, true, false, [], ◌∷◌, ◌++◌, ◌≤◌, ◌+◌, ◌*◌, length};
 ghost use Rattle.std.proofs.Math.Option.{none};
 ghost use Rattle.rules.specs.declared.request.Request.TheVariants.{Protect};

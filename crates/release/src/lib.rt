@@ -1,5 +1,6 @@
 // Release, unchanged and changed, where it is not refused: a hold goes, and when it was the last, room is made for nothing.
 #![tactic(auto)]
+
 ghost use Rattle.std.specs.Prelude.{◌≡◌, false, [], length};
 ghost use Rattle.rules.specs.declared.request.Request.TheVariants.{Release, ReleaseChanged};
 ghost use Rattle.rules.specs.Hosts.{asking};

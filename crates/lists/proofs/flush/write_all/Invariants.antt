@@ -1,0 +1,16 @@
+-- After the places passed, those dirty among them are written; the addresses stay as entries become clean.
+use Prim.Native.Nat.{◌-◌}
+use mathlib.Core.Logic.{⊎_elim}
+use mathlib.Core.Path.{ap, ◌∙◌, ◌≡◌, refl}
+use native.Mathlib.Omega.{arith}
+use lib.ListN.{length}
+use borrow.Author.Rules.{rules}
+use Rattle.layout.specs.Picture.{addresses, cache_in, rest_in}
+use Rattle.lists.proofs.Flushing.{Flushing, flushing_start, flushing_rows, flushing_same, flushing_on, flushing_past, flushing_end}
+use Rattle.lists.proofs.flush.write_all.Given as goal
+
+abbrev pub invariant-loop-place : goal.invariant-loop-place
+invariant-loop-place l = Flushing (cache_in l.initial.table) (rest_in l.initial.table) l.initial.orders l.table l.orders l.place l.given × (l.used ≡ length (addresses (cache_in l.initial.table).rows)) × (length l.table ≡ length l.initial.table)
+
+abbrev pub decreases-loop-place : goal.decreases-loop-place
+decreases-loop-place l = l.used - l.place
