@@ -3,6 +3,7 @@
 // Each takes any words. A table is judged before anything else is done with it, but for the old
 // words of one that is opened.
 #![tactic(auto)]
+
 mod asking;
 mod opening;
 mod reporting;
