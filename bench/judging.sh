@@ -4,6 +4,6 @@
 set -eu
 cd "$(dirname "$0")/.."
 mkdir -p target
-rt staticlib judge_c > target/judging.log 2>&1 || { tail -5 target/judging.log; exit 1; }
+bash scripts/staticlib judge_c > target/judging.log 2>&1 || { tail -5 target/judging.log; exit 1; }
 rustc --edition 2021 -C opt-level=3 -L target/staticlib bench/judging.rs -o target/judging
 target/judging

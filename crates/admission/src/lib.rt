@@ -1,5 +1,6 @@
 // The room that is made for a new entry.
 #![tactic(auto)]
+
 ghost use Rattle.std.specs.Prelude.{◌≡◌, ◌≤◌, true};
 ghost use Rattle.rules.specs.Cache.{start};
 ghost use Rattle.rules.specs.Limits.{most_size};

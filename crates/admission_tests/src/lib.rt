@@ -1,5 +1,6 @@
 // The tests of the requests that may bring an entry in, from the last to the first.
 #![tactic(auto)]
+
 ghost use Rattle.std.specs.Prelude.{◌≡◌, not, ◌&&◌, List, [], ◌∷◌, ℕ};
 ghost use Rattle.rules.specs.declared.answer.Refusal.TheVariants.{Held, Full};
 ghost use Rattle.rules.specs.declared.request.Request.TheVariants.{Insert, Protect};

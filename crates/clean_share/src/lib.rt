@@ -1,5 +1,6 @@
 // The clean share: how many bytes it lacks.
 #![tactic(auto)]
+
 ghost use Rattle.std.specs.Prelude.{◌≡◌, ◌-◌, ◌<◌, ◌≤◌, length};
 ghost use Rattle.rules.specs.Limits.{most_size};
 ghost use Rattle.rules.specs.Room.{clean_bytes, share_missing};

@@ -1,4 +1,5 @@
 // What the tests of requests ask of a good table: the entry at an address, and a row for a new entry.
 #![tactic(auto)]
+
 pub mod full;
 pub mod seen;

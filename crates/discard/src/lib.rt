@@ -1,5 +1,6 @@
 // Discard, of an address for which it is not refused.
 #![tactic(auto)]
+
 ghost use Rattle.std.specs.Prelude.{◌≡◌, []};
 ghost use Rattle.rules.specs.declared.request.Request.TheVariants.{Discard};
 ghost use Rattle.rules.specs.Hosts.{asking};

@@ -1,5 +1,6 @@
 // The tests of the requests on an entry that is here, from the last to the first; a discard may name one that is not.
 #![tactic(auto)]
+
 ghost use Rattle.std.specs.Prelude.{◌≡◌, List, ℕ};
 ghost use Rattle.rules.specs.declared.request.Request.TheVariants.{Release, ReleaseChanged, Pin, Unpin, Resize, Discard};
 ghost use Rattle.rules.specs.Refusals.{tests};

@@ -1,5 +1,6 @@
 // The flash: a large incoming size raises the maximum before any room is made.
 #![tactic(auto)]
+
 ghost use Rattle.std.specs.Prelude.{◌≡◌, Bool, ◌≤◌, ltb};
 ghost use Rattle.rules.specs.Entries.{if◌then◌else◌};
 ghost use Rattle.rules.specs.Resizing.{flashed};

@@ -1,5 +1,6 @@
 // The whole part for C and Rust, for the test beside the machine's own conversion.
 #![tactic(auto)]
+
 ghost use Rattle.std.specs.Prelude.{◌≡◌};
 ghost use Rattle.std.specs.Float.{binary64};
 ghost use Rattle.std.specs.Float.Ieee.{to_bits};

@@ -1,5 +1,6 @@
 pub mod Says
 pub mod Marking
+pub mod Ending
 pub mod Ascending
 pub mod RowWords
 pub mod Tally

@@ -10,7 +10,7 @@ use native.Mathlib.Nat.{zero-add}
 use lib.ListN.{length, get_or, take, drop, length-drop, take-append-drop, get_or-eq_default}
 use lib.Seq.{drop-drop, length-take-le}
 use Rattle.settings.specs.Validation.{first_bad}
-use Rattle.settings_words.specs.Picture.{settings_of, picture}
+use Rattle.settings_words.specs.Picture.{settings_of}
 use Rattle.settings_words.specs.Words.{flag_word, flag_of, settings_words}
 use Rattle.settings_words.proofs.PictureLaws as settings
 use Rattle.rules.specs.declared.entry.Row.{Row}
@@ -18,7 +18,7 @@ use Rattle.rules.specs.declared.entry.Row.TheVariants.{Free}
 use Rattle.rules.specs.Addresses.{elem}
 use Rattle.rules.specs.Allowed.{Allowed}
 use Rattle.rules.specs.Entries.{is_listed}
-use Rattle.layout.specs.Layout.{version, exceeded_at, settings_at, header_words, width, row_at, recency_at, addresses_at, layout_words, mode_word, mode_of}
+use Rattle.layout.specs.Layout.{exceeded_at, settings_at, header_words, width, row_at, recency_at, addresses_at, layout_words, mode_word, mode_of}
 use Rattle.layout.specs.Picture.{address_at, rows_words, run, head_words, encode, address_of, entry_of, row_of, rows_of, run_of, cache_with, cache_in, rest_in}
 use Rattle.layout.proofs.ReadBack.{RowAllowed}
 use Rattle.judge.specs.Fits.{RunFits, PartsFit, TableFits, numbers, words_at}

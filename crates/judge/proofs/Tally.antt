@@ -66,7 +66,8 @@ one_more x zero f h = absurd (omega arith)
 one_more x (suc n) f h =
     dite (ℕ_discrete x n)
     (λ (q : x ≡ n).
-    rw (q, eq-eqb n n refl, tally_same (λ r. eqb n r || f r) f n (λ r k. rw (ne_eqb n r (λ (p : n ≡ r). omega arith)))) (either (f n) (tally f n)))
+    let below : tally (λ r. eqb x r || f r) n ≡ tally f n = tally_same (λ r. eqb x r || f r) f n (λ r k. rw (ne_eqb x r (λ (p : x ≡ r). omega arith))) in
+    rw (below, eq-eqb x n q, q) (either (f n) (tally f n)))
     (λ (q : x ≡ n → ⊥). rw (ne_eqb x n q, one_more x n f (omega arith)) (omega arith))
   where
     either : (b : Bool) (m : ℕ) → m + 1 ≡ m + flag_word b + flag_word (not b)

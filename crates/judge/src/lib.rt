@@ -20,6 +20,7 @@
 //   all of them.
 // - All ones is the largest word, so of rising addresses only the last can be all ones.
 #![tactic(auto)]
+
 ghost use Rattle.std.specs.Prelude.{◌≡◌, ◌≤◌, length};
 ghost use Rattle.layout.specs.Layout.{row_at};
 ghost use Rattle.rules.specs.Limits.{most_rows};

@@ -1,5 +1,6 @@
 // Judging for C and Rust: a table is lent as its first word and its length.
 #![tactic(auto)]
+
 ghost use Rattle.std.specs.Prelude.{◌≡◌};
 ghost use Rattle.judge.specs.Verdict.{judge_words};
 

@@ -17,6 +17,7 @@
 //
 // The functions read and write one part each. They ask only that the part lies in the table, and state every word.
 #![tactic(auto)]
+
 pub mod fresh;
 pub mod header;
 pub mod order;

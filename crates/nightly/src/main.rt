@@ -2,10 +2,12 @@
 // goes through the world's records, some of them often, changes every third that it looks at, and
 // flushes at the end. Its orders, one to a line.
 #![tactic(auto)]
+
 use entries::default_threshold;
 use rules::request::{Access, Request};
 use settings::{Mode, Settings};
 use shell::print;
+use std::io;
 
 const ROWS: u64 = 64;
 
@@ -25,16 +27,29 @@ const VISITS: u64 = 400;
 // How many records are looked at often.
 const OFTEN: u64 = 31;
 
-fn ask(table: &mut Table, orders: &mut Orders, request: Request) {
+fn ask(
+    rt: &impl Print,
+    table: &mut Table,
+    orders: &mut Orders,
+    request: Request,
+) -> io::Result<()> {
     let none = [0u8; 0];
     let answer = cache::step(table, orders, &none, request);
-    print::answer(orders, answer);
+    print::answer(rt, orders, answer)
 }
 
 // A record read, or changed.
-fn visit(table: &mut Table, orders: &mut Orders, address: u64, size: u64, changed: bool) {
+fn visit(
+    rt: &impl Print,
+    table: &mut Table,
+    orders: &mut Orders,
+    address: u64,
+    size: u64,
+    changed: bool,
+) -> io::Result<()> {
     let access = Access::Writing;
     ask(
+        rt,
         table,
         orders,
         Request::Protect {
@@ -42,12 +57,11 @@ fn visit(table: &mut Table, orders: &mut Orders, address: u64, size: u64, change
             address,
             size,
         },
-    );
+    )?;
     if changed {
-        ask(table, orders, Request::ReleaseChanged { address, size });
-        return;
+        return ask(rt, table, orders, Request::ReleaseChanged { address, size });
     }
-    ask(table, orders, Request::Release { address });
+    ask(rt, table, orders, Request::Release { address })
 }
 
 // The record of a visit; every eighth visit is to one of those looked at seldom.
@@ -58,24 +72,24 @@ fn record(i: u64) -> u64 {
     i % VISITS * 7919 % 104729 % OFTEN
 }
 
-fn night(table: &mut Table, orders: &mut Orders) {
+fn night(rt: &impl Print, table: &mut Table, orders: &mut Orders) -> io::Result<()> {
     let mut i: u64 = 0;
     while i < VISITS {
         let address = record(i);
         let size = 20000 + address % 10000 * 7919 % 90001;
-        visit(table, orders, address, size, i % 3 == 0);
+        visit(rt, table, orders, address, size, i % 3 == 0)?;
         i += 1;
     }
-    ask(table, orders, Request::Flush);
+    ask(rt, table, orders, Request::Flush)
 }
 
-fn main() {
+fn main(rt: HostRuntime) -> io::Result<()> {
     let mut table = [0u64; TABLE_WORDS];
     let mut orders = [0u64; ORDER_WORDS];
     let none = [0u64; 0];
     let mut s = Settings::defaults(Mode::Alone);
     s.clean = 0.3;
     let answer = cache::open(&mut table, ROWS, Mode::Alone, default_threshold(), s);
-    print::answer(&none, answer);
-    night(&mut table, &mut orders);
+    print::answer(&rt, &none, answer)?;
+    night(&rt, &mut table, &mut orders)
 }

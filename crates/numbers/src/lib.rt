@@ -9,6 +9,7 @@
 //     figures    a report as numbers
 //     writing    what writing a message came to, as numbers
 #![tactic(auto)]
+
 pub mod answer;
 pub mod explained;
 pub mod figures;

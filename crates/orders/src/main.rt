@@ -1,5 +1,8 @@
 // The program `orders` on case P1.
 #![tactic(auto)]
-fn main() {
-    shell::serve();
+
+use std::io;
+
+fn main(rt: HostRuntime) -> io::Result<()> {
+    shell::serve(&rt)
 }

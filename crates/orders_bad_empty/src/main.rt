@@ -1,5 +1,8 @@
 // The program `orders` on an empty line: the lines after it are not run.
 #![tactic(auto)]
-fn main() {
-    shell::serve();
+
+use std::io;
+
+fn main(rt: HostRuntime) -> io::Result<()> {
+    shell::serve(&rt)
 }

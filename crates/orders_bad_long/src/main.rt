@@ -1,5 +1,8 @@
 // The program `orders` on a line that its buffer does not hold: the lines after it are not run.
 #![tactic(auto)]
-fn main() {
-    shell::serve();
+
+use std::io;
+
+fn main(rt: HostRuntime) -> io::Result<()> {
+    shell::serve(&rt)
 }

@@ -1,5 +1,8 @@
 // The program `orders` on 4,000 lines, which it reads in pieces.
 #![tactic(auto)]
-fn main() {
-    shell::serve();
+
+use std::io;
+
+fn main(rt: HostRuntime) -> io::Result<()> {
+    shell::serve(&rt)
 }

@@ -1,5 +1,8 @@
 // The program `orders` on inserts that are refused, which leave case P1 as it is.
 #![tactic(auto)]
-fn main() {
-    shell::serve();
+
+use std::io;
+
+fn main(rt: HostRuntime) -> io::Result<()> {
+    shell::serve(&rt)
 }

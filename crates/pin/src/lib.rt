@@ -1,5 +1,6 @@
 // Pin and unpin, of an entry for which they are not refused.
 #![tactic(auto)]
+
 ghost use Rattle.std.specs.Prelude.{[]};
 ghost use Rattle.rules.specs.declared.request.Request.TheVariants.{Pin, Unpin};
 ghost use Rattle.rules.specs.Hosts.{asking};

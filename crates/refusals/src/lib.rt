@@ -1,5 +1,6 @@
 // Why a request is refused: its tests, as the rules order them.
 #![tactic(auto)]
+
 ghost use Rattle.std.specs.Prelude.{◌≡◌};
 ghost use Rattle.rules.specs.Hosts.{asking};
 ghost use Rattle.rules.specs.Refusals.{refusal_of};

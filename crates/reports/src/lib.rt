@@ -1,5 +1,6 @@
 // The report of the cache that a good table holds.
 #![tactic(auto)]
+
 ghost use Rattle.std.specs.Prelude.{◌≡◌};
 ghost use Rattle.rules.specs.Entries.{if◌then◌else◌};
 ghost use Rattle.rules.specs.Reports.{report_of, idle_count, totals_from};

@@ -1,5 +1,6 @@
 // A size named for an entry: resize, and what a changed release shares with it.
 #![tactic(auto)]
+
 ghost use Rattle.std.specs.Prelude.{◌≡◌, false, []};
 ghost use Rattle.std.proofs.Math.Option.{some};
 ghost use Rattle.rules.specs.declared.request.Request.TheVariants.{Resize};

@@ -1,5 +1,6 @@
 // Making room in the table.
 #![tactic(auto)]
+
 mod held;
 mod pass;
 mod room;

@@ -1,15 +1,16 @@
 // Reading the input and running its lines.
-ghost use Rattle.std.specs.Prelude.{◌≤◌, ◌≡◌, length};
-ghost use Rattle.io.specs.Counts.{IsPrefixLen};
+ghost use Rattle.std.specs.Prelude.{◌≤◌, ◌≡◌, length, IfOk, OnErr};
+ghost use Rattle.std.specs.Io.{ReadsAtMost};
 ghost use Rattle.lines.specs.Lines.{line_of};
 ghost use Rattle.shell.specs.Lines.{ran, ran_line};
 ghost use Rattle.shell.specs.Rest.{Within};
 
 use crate::{ask, print};
-use libc::STDIN_FILENO;
 use lines::Line;
 use rules::request::Request;
 use small_setup::{Orders, Table};
+use std::io;
+use std::io::Read;
 
 // What a piece of input leaves.
 #[derive(Clone, Copy)]
@@ -20,39 +21,47 @@ pub enum Rest {
     Over,
 }
 
-// Runs a line, and answers whether the run goes on.
-fn run_line(table: &mut Table, orders: &mut Orders, s: &[u8]) -> bool
-    ensures { ran result table.new orders.new ≡ ran_line table.old orders.old (line_of s.now) }
+// Runs a line, and answers whether the run goes on. The line is done also where a write fails.
+fn run_line(rt: &impl Print, table: &mut Table, orders: &mut Orders, s: &[u8]) -> io::Result<bool>
+    ensures ok { IfOk result (λ on. ran on table.new orders.new ≡ ran_line table.old orders.old (line_of s.now)) }
+    ensures err_table { OnErr result (table.new ≡ (ran_line table.old orders.old (line_of s.now)).table) }
+    ensures err_orders { OnErr result (orders.new ≡ (ran_line table.old orders.old (line_of s.now)).orders) }
 {
     let line = lines::read_line(s);
     match line {
         Line::Bad => {
-            print::bad_line();
-            false
+            print::bad_line(rt)?;
+            Ok(false)
         }
         Line::Insert { address, size } => {
-            ask(table, orders, Request::Insert { address, size });
-            true
+            ask(rt, table, orders, Request::Insert { address, size })?;
+            Ok(true)
         }
     }
 }
 
 // Runs the lines that end within a text, and answers where the unfinished one starts.
-fn run_lines(table: &mut Table, orders: &mut Orders, text: &[u8]) -> Rest
-    ensures { Within result (length text.now) }
+#[tactic(auto, using(lines::proofs::Laws::line_within))]
+fn run_lines(
+    rt: &impl Print,
+    table: &mut Table,
+    orders: &mut Orders,
+    text: &[u8],
+) -> io::Result<Rest>
+    ensures { IfOk result (λ rest. Within rest (length text.now)) }
 {
     let mut at: usize = 0;
     while at < text.len() {
         let end = lines::line_end(text, at);
         if end == text.len() {
-            return Rest::Unfinished(at);
+            return Ok(Rest::Unfinished(at));
         }
-        if !run_line(table, orders, &text[at..end]) {
-            return Rest::Over;
+        if !run_line(rt, table, orders, &text[at..end])? {
+            return Ok(Rest::Over);
         }
         at = end + 1;
     }
-    Rest::Unfinished(at)
+    Ok(Rest::Unfinished(at))
 }
 
 // Moves the bytes between two places to the front.
@@ -69,59 +78,73 @@ fn move_to_front(buf: &mut [u8], from: usize, to: usize)
 
 // Keeps the unfinished line, which lies between two places, at the front. One that fills the buffer
 // is bad.
-fn keep(buf: &mut [u8], from: usize, to: usize) -> Rest
+fn keep(rt: &impl Print, buf: &mut [u8], from: usize, to: usize) -> io::Result<Rest>
     requires from_le_to { from ≤ to }
     requires to_in_bounds { to ≤ length buf.old }
-    ensures { Within result (length buf.new) }
+    ensures ok { IfOk result (λ rest. Within rest (length buf.new)) }
+    ensures err { OnErr result (buf.new ≡ buf.old) }
 {
     if to - from == buf.len() {
-        print::bad_line();
-        return Rest::Over;
+        print::bad_line(rt)?;
+        return Ok(Rest::Over);
     }
     move_to_front(buf, from, to);
-    Rest::Unfinished(to - from)
+    Ok(Rest::Unfinished(to - from))
 }
 
 // Reads once behind the bytes that are kept, and answers how many there are now.
-fn read_behind(buf: &mut [u8], kept: usize) -> usize
+fn read_behind(reader: &mut impl Read, buf: &mut [u8], kept: usize) -> io::Result<usize>
     requires { kept ≤ length buf.old }
-    ensures lower_bound { kept ≤ result }
-    ensures prefix_len { IsPrefixLen result buf.new }
+    ensures lower_bound { IfOk result (λ n. kept ≤ n) }
+    ensures prefix_len { ReadsAtMost result buf.new }
 {
-    let got = libc::read(STDIN_FILENO, &mut buf[kept..]);
-    kept + io::count(got, &buf[kept..])
+    let got = reader.read(&mut buf[kept..])?;
+    Ok(kept + got)
 }
 
 // Reads once, and runs the lines that are whole then. At the input's end the last line is whole,
 // with or without a newline.
-fn run_piece(table: &mut Table, orders: &mut Orders, buf: &mut [u8], kept: usize) -> Rest
+fn run_piece(
+    rt: &impl Print,
+    reader: &mut impl Read,
+    table: &mut Table,
+    orders: &mut Orders,
+    buf: &mut [u8],
+    kept: usize,
+) -> io::Result<Rest>
     requires { kept ≤ length buf.old }
-    ensures { Within result (length buf.new) }
+    ensures { IfOk result (λ rest. Within rest (length buf.new)) }
 {
-    let n = read_behind(buf, kept);
+    let n = read_behind(reader, buf, kept)?;
     if n == kept {
         if 0 < n {
-            run_line(table, orders, &buf[..n]);
+            run_line(rt, table, orders, &buf[..n])?;
         }
-        return Rest::Over;
+        return Ok(Rest::Over);
     }
-    let rest = run_lines(table, orders, &buf[..n]);
+    let rest = run_lines(rt, table, orders, &buf[..n])?;
     match rest {
-        Rest::Over => Rest::Over,
-        Rest::Unfinished(at) => keep(buf, at, n),
+        Rest::Over => Ok(Rest::Over),
+        Rest::Unfinished(at) => keep(rt, buf, at, n),
     }
 }
 
 // Runs the whole input. Nothing says that it ends, so the turns are counted down from a number that
 // no run uses up.
-pub fn run(table: &mut Table, orders: &mut Orders, buf: &mut [u8]) {
+pub fn run(
+    rt: &(impl Input + Print),
+    table: &mut Table,
+    orders: &mut Orders,
+    buf: &mut [u8],
+) -> io::Result<()> {
+    let mut reader = rt.reader();
     let mut kept: usize = 0;
     let mut turns = u64::MAX;
     while 0 < turns {
-        let rest = run_piece(table, orders, buf, kept);
+        let rest = run_piece(rt, &mut reader, table, orders, buf, kept)?;
         match rest {
             Rest::Over => {
-                return;
+                return Ok(());
             }
             Rest::Unfinished(n) => {
                 kept = n;
@@ -129,4 +152,5 @@ pub fn run(table: &mut Table, orders: &mut Orders, buf: &mut [u8]) {
         }
         turns -= 1;
     }
+    Ok(())
 }

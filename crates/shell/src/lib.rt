@@ -2,8 +2,10 @@
 // cache in the small setup orders for each.
 //
 // The input is read in pieces. The lines that are whole are run, the unfinished one is moved to the
-// buffer's front, and the next piece goes behind it. A line that fills the buffer is a bad line.
+// buffer's front, and the next piece goes behind it. A line that fills the buffer is a bad line. A
+// read or a write that fails ends the run: its error is answered, and no other is.
 #![tactic(auto)]
+
 ghost use Rattle.std.specs.Prelude.{◌≡◌, []};
 ghost use Rattle.cache.specs.Tables.{step_words};
 
@@ -15,25 +17,34 @@ use rules::answer::Answer;
 use rules::request::Request;
 use settings::Mode;
 use small_setup::{ORDER_WORDS, Orders, ROWS, TABLE_WORDS, Table, small};
+use std::io;
 
-// Does a request that has no message, and prints what it gives.
-pub fn ask(table: &mut Table, orders: &mut Orders, request: Request)
+// How many bytes of input are held.
+const BUFFER_BYTES: usize = 65536;
+
+// Does a request that has no message, and prints what it gives. It is done also where a write fails.
+pub fn ask(
+    rt: &impl Print,
+    table: &mut Table,
+    orders: &mut Orders,
+    request: Request,
+) -> io::Result<()>
     ensures table_after { table.new ≡ (step_words table.old orders.old [] request).table }
     ensures orders_after { orders.new ≡ (step_words table.old orders.old [] request).orders }
 {
     let none = [0u8; 0];
     let answer = cache::step(table, orders, &none, request);
-    print::answer(orders, answer);
+    print::answer(rt, orders, answer)
 }
 
 // Opens the small setup, and runs the input.
-pub fn serve() {
+pub fn serve(rt: &(impl Input + Print)) -> io::Result<()> {
     let mut table = [0u64; TABLE_WORDS];
     let mut orders = [0u64; ORDER_WORDS];
-    let mut bytes = io::large_buffer();
+    let mut bytes = [0u8; BUFFER_BYTES];
     let answer = cache::open(&mut table, ROWS, Mode::Alone, default_threshold(), small());
     match answer {
-        Answer::Accepted(_) => input::run(&mut table, &mut orders, &mut bytes),
-        Answer::Refused(r) => print::refusal(r),
+        Answer::Accepted(_) => input::run(rt, &mut table, &mut orders, &mut bytes),
+        Answer::Refused(r) => print::refusal(rt, r),
     }
 }

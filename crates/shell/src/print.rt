@@ -1,62 +1,63 @@
-// What is printed.
+// What is printed. Each function fails only where a write fails.
 use answers::refusal_number;
-use libc::STDOUT_FILENO;
 use rules::answer::{Answer, Refusal};
+use std::io;
 
-pub fn text(s: &[u8]) {
-    io::write_all(STDOUT_FILENO, s);
+pub fn text(rt: &impl Print, s: &[u8]) -> io::Result<()> {
+    rt.write_all(s)
 }
 
 // A text, and a number behind it.
-pub fn number(s: &[u8], n: u64) {
-    text(s);
-    io::print_decimal(STDOUT_FILENO, n);
+pub fn number(rt: &impl Print, s: &[u8], n: u64) -> io::Result<()> {
+    text(rt, s)?;
+    rt.print(n)
 }
 
 // A line with an address and a size.
-pub fn line(s: &[u8], address: u64, size: u64) {
-    number(s, address);
-    number(b" ", size);
-    text(b"\n");
+pub fn line(rt: &impl Print, s: &[u8], address: u64, size: u64) -> io::Result<()> {
+    number(rt, s, address)?;
+    number(rt, b" ", size)?;
+    text(rt, b"\n")
 }
 
-fn order(kind: u64, address: u64, size: u64) {
+fn order(rt: &impl Print, kind: u64, address: u64, size: u64) -> io::Result<()> {
     if kind == 1 {
-        line(b"write ", address, size);
+        line(rt, b"write ", address, size)
     } else if kind == 2 {
-        line(b"evict ", address, size);
+        line(rt, b"evict ", address, size)
     } else {
-        line(b"load ", address, size);
+        line(rt, b"load ", address, size)
     }
 }
 
 // So many orders, of three words each.
-fn orders(words: &[u64], count: u64) {
+fn orders(rt: &impl Print, words: &[u64], count: u64) -> io::Result<()> {
     let mut at: usize = 0;
     let mut left = count;
     while 0 < left {
         if words.len() - at < 3 {
-            return;
+            return Ok(());
         }
-        order(words[at], words[at + 1], words[at + 2]);
+        order(rt, words[at], words[at + 1], words[at + 2])?;
         at += 3;
         left -= 1;
     }
+    Ok(())
 }
 
-pub fn refusal(r: Refusal) {
-    number(b"refused ", refusal_number(r));
-    text(b"\n");
+pub fn refusal(rt: &impl Print, r: Refusal) -> io::Result<()> {
+    number(rt, b"refused ", refusal_number(r))?;
+    text(rt, b"\n")
 }
 
 // What a request gives: its orders, or its refusal.
-pub fn answer(words: &[u64], a: Answer) {
+pub fn answer(rt: &impl Print, words: &[u64], a: Answer) -> io::Result<()> {
     match a {
-        Answer::Accepted(count) => orders(words, count),
-        Answer::Refused(r) => refusal(r),
+        Answer::Accepted(count) => orders(rt, words, count),
+        Answer::Refused(r) => refusal(rt, r),
     }
 }
 
-pub fn bad_line() {
-    text(b"bad line\n");
+pub fn bad_line(rt: &impl Print) -> io::Result<()> {
+    text(rt, b"bad line\n")
 }

@@ -4,6 +4,7 @@
 // answers, each as a pointer and a length. All else is numbers and structs of numbers. Each function answers whatever the numbers, words and
 // bytes are.
 #![tactic(auto)]
+
 ghost use Rattle.std.specs.Prelude.{◌≡◌};
 ghost use Rattle.cache.specs.Tables.{opened};
 ghost use Rattle.numbers.specs.Explanations.{explanation_numbers};

@@ -13,6 +13,7 @@
 //
 // A function asks that the table is good: its words are those of a steady cache. `rows` is the number of rows.
 #![tactic(auto)]
+
 pub mod changes;
 pub mod header;
 pub mod idle;

@@ -1,5 +1,6 @@
 // The tests of each request on the whole table, from the last to the first.
 #![tactic(auto)]
+
 ghost use Rattle.std.specs.Prelude.{List, ◌≡◌, ◌&&◌, ℕ, eqb};
 ghost use Rattle.rules.specs.declared.request.Request.TheVariants.{Flush, Sync, Configure};
 ghost use Rattle.rules.specs.Refusals.{is_lead, tests};

@@ -1,5 +1,6 @@
 // A taken list: whether it is bad, and the rows that it names.
 #![tactic(auto)]
+
 ghost use Rattle.std.specs.Prelude.{◌≡◌, length};
 ghost use Rattle.rules.specs.Limits.{most_rows};
 ghost use Rattle.layout.specs.Picture.{addresses, cache_in};

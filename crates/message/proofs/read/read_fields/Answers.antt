@@ -35,7 +35,7 @@ pub overflow_add-at-in-loop-taken : goal.overflow_add-at-in-loop-taken
 overflow_add-at-in-loop-taken c = omega (arith, c.fields_end-end.ensures.fit)
 
 pub loop-taken-preserved : goal.loop-taken-preserved
-loop-taken-preserved c = (omega arith, omega arith, omega arith, reads_field c.args.bytes.now c.loop-taken.at c.loop-taken.invariant.3 (c.fields_end-end.ensures.tagged (omega arith)) (omega (arith, c.fields_end-end.ensures.wanting (omega arith))) (omega (arith, c.fields_end-end.ensures.fit)) (sym c.address_head.ensures ∙ c.if-not-address_head.false c.number_at-address.ensures (omega arith) refl)
+loop-taken-preserved c = (omega arith, omega arith, omega arith, reads_field c.args.bytes.now c.loop-taken.at c.loop-taken.invariant.3 (c.fields_end-end.ensures.tagged (omega arith)) (omega (arith, c.fields_end-end.ensures.wanting (omega arith))) (omega (arith, c.fields_end-end.ensures.fit)) (sym c.address_head.ensures ∙ c.if-not-address_head.false) c.number_at-address.ensures (omega arith) refl)
 
 pub returns : goal.returns
 returns c = reads_past _ _ c.past_fields-2.ensures (omega (arith, c.fields_end-end.ensures.fit)) c.loop-taken.invariant.3

@@ -1,0 +1,7 @@
+-- No order is given.
+use mathlib.Core.Path.{refl}
+use borrow.Author.Rules.{rules}
+use Rattle.epoch.proofs.count.no_end.Goals as goal
+
+pub returns : goal.returns
+returns c = (refl, c.no_runs-again.ensures, refl)

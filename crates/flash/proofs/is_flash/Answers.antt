@@ -1,0 +1,6 @@
+-- By the cases of the rule.
+use borrow.Author.Rules.{rules}
+use Rattle.flash.proofs.is_flash.Goals as goal
+
+pub returns-in-On : goal.returns-in-On
+returns-in-On c = rw (c.in-On.is, c.exceeds_share.ensures)

@@ -1,0 +1,12 @@
+-- The four writes follow one another without a gap, so the words are the head, the rows and the runs of a fresh cache, then the rest.
+use borrow.Author.Rules.{rules}
+use Rattle.layout.proofs.Emptied.{fresh_words}
+use Rattle.layout.proofs.fresh.write_fresh.Goals as goal
+
+pub returns : goal.returns
+returns c =
+    let s = c.args in record {
+      table_after = rw (c.fill_part-2.ensures, c.recency_at.ensures, c.fill_part.ensures, c.put_settings.ensures.table_after, c.copy_in.ensures, c.mode_word-mode.ensures)
+          (fresh_words s.rows s.mode s.threshold s.s s.table.now);
+      floats_fit = c.put_settings.ensures.floats_fit;
+    }

@@ -1,0 +1,14 @@
+-- Six zeros are written from the row's start on.
+use borrow.Author.Rules.{rules}
+use Rattle.rules.specs.declared.entry.Row.TheVariants.{Free}
+use Rattle.layout.specs.Layout.{width, row_at}
+use Rattle.layout.specs.Leaves.{put_row}
+use Rattle.layout.specs.Picture.{row_words}
+use Rattle.layout.proofs.Leaves.{over_end}
+use Rattle.layout.proofs.row.clear_row.Goals as goal
+
+pub returns : goal.returns
+unfolding put_row
+returns c =
+    let s = c.args in
+    over_end (row_at s.row) width (row_words Free) s.table.now _ c.copy_in.ensures

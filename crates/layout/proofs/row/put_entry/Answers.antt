@@ -1,0 +1,15 @@
+-- The entry's words are written from the row's start on.
+use borrow.Author.Rules.{rules}
+use Rattle.rules.specs.declared.entry.Row.TheVariants.{Used}
+use Rattle.layout.specs.Layout.{width, row_at}
+use Rattle.layout.specs.Leaves.{put_row}
+use Rattle.layout.specs.Picture.{row_words}
+use Rattle.layout.proofs.Leaves.{over_end}
+use Rattle.layout.proofs.row.put_entry.Goals as goal
+
+pub returns : goal.returns
+unfolding put_row
+returns c =
+    let s = c.args in
+    over_end (row_at s.row) width (row_words (Used s.e)) s.table.now _
+    (rw (c.flag_word-dirty.ensures, c.flag_word-pinned.ensures, c.hold_word-hold.ensures) at c.copy_in.ensures)

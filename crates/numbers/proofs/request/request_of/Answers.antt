@@ -1,0 +1,25 @@
+-- Take and configure have their kinds behind those that `plain_of` reads.
+use mathlib.Core.List.{[], ◌∷◌}
+use mathlib.Core.Path.{sym, ap, ◌∙◌}
+use borrow.Author.Rules.{rules}
+use Rattle.rules.specs.declared.request.Request.TheVariants.{Take, Configure}
+use Rattle.numbers.specs.Meanings.{meaning, settings_of_raw, asked, plain_kinds, plain_of, asked_of_raw}
+use Rattle.numbers.proofs.Listed.{meaning_before, neither}
+use Rattle.numbers.proofs.request.request_of.Goals as goal
+
+pub returns-in-12 : goal.returns-in-12
+unfolding asked_of_raw meaning
+returns-in-12 c = rw c.in-12.is
+
+pub returns-in-13 : goal.returns-in-13
+unfolding asked_of_raw meaning
+returns-in-13 c = rw (c.in-13.is, c.settings_of.ensures)
+
+pub returns-in_default : goal.returns-in_default
+unfolding asked_of_raw plain_of
+returns-in_default c =
+    let r = c.in_default.in_default-own.rest in
+    let w = c.args.w in
+    let s = settings_of_raw w.settings in
+    c.plain_request.ensures
+    ∙ ap asked (sym (meaning_before (plain_kinds w.address w.size) ((12, Take) ∷ (13, Configure s) ∷ []) w.kind (neither 12 13 Take (Configure s) w.kind r.0.1 r.1)))

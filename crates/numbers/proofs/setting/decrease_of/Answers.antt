@@ -1,0 +1,25 @@
+-- By the kind as `decrease_of_raw` reads it; a literal is its nearest float.
+use borrow.Author.Tests.{ne_eqb}
+use lib.Ieee.{of_bits, round}
+use Rattle.numbers.specs.Meanings.{meaning, decrease_of_raw}
+use Rattle.numbers.proofs.setting.decrease_of.Goals as goal
+
+pub returns-in-0 : goal.returns-in-0
+unfolding decrease_of_raw meaning
+returns-in-0 c = rw c.in-0.is
+
+pub returns-in-1 : goal.returns-in-1
+unfolding decrease_of_raw meaning
+returns-in-1 c = rw c.in-1.is
+
+pub returns-in-2 : goal.returns-in-2
+unfolding decrease_of_raw meaning
+returns-in-2 c = rw c.in-2.is
+
+pub returns-in-3 : goal.returns-in-3
+unfolding decrease_of_raw meaning
+returns-in-3 c = rw c.in-3.is
+
+pub returns-in_default : goal.returns-in_default
+unfolding decrease_of_raw meaning of_bits round
+returns-in_default c = simp (ne_eqb _ _ c.in_default.in_default-own.rest.0.0.0.1, ne_eqb _ _ c.in_default.in_default-own.rest.0.0.1, ne_eqb _ _ c.in_default.in_default-own.rest.0.1, ne_eqb _ _ c.in_default.in_default-own.rest.1)

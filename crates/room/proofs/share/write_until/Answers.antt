@@ -1,0 +1,80 @@
+use Prim.Native.Nat.{◌+◌, ◌-◌}
+use mathlib.Core.Path.{◌≡◌, refl, sym, ◌∙◌}
+use lib.ListN.{length}
+use Rattle.rules.proofs.Moved.{left}
+use Rattle.rules.specs.Cache.{amend_at}
+use Rattle.rules.specs.Entries.{cleaned}
+use Rattle.layout.specs.Picture.{cache_in, rest_in}
+use Rattle.table.specs.Told.{listed_at}
+use Rattle.room.proofs.Kept.{gave, kept_good, left_write}
+use Rattle.room.proofs.Writing.{Writing, writing_start, within, writing_skip, writing_write, writing_met, writing_end, writing_in}
+use native.Mathlib.Omega.{arith}
+use borrow.Author.Rules.{rules}
+use Rattle.room.proofs.share.write_until.Goals as goal
+
+pub loop-pos-init : goal.loop-pos-init
+loop-pos-init c =
+    (writing_start c.requires.0 c.requires.2 c.requires.1 c.listed_len-listed.ensures, refl, refl)
+
+pub shape_of-table-then-missing-eq0 : goal.shape_of-table-then-missing-eq0
+shape_of-table-then-missing-eq0 c = omega (arith, c.loop-pos.invariant.1)
+
+pub shape_of-orders-then-missing-eq0 : goal.shape_of-orders-then-missing-eq0
+shape_of-orders-then-missing-eq0 c = omega (arith, c.loop-pos.invariant.2)
+
+pub returns-then-missing-eq0 : goal.returns-then-missing-eq0
+returns-then-missing-eq0 c = writing_met c.loop-pos.invariant.0 (omega arith)
+
+pub dirty_at-requires : goal.dirty_at-requires
+dirty_at-requires c =
+    let k = c.loop-pos.invariant.0 in
+    (kept_good k.kept, within k (omega arith))
+
+pub write_at-requires : goal.write_at-requires
+write_at-requires c =
+    let l = c.loop-pos in
+    let k = l.invariant.0 in
+    (kept_good k.kept, within k (omega arith), omega (arith, k.kept.fits, l.invariant.2, left_write (cache_in c.loop-pos.table) c.loop-pos.invariant.0.kept.did.holds.steady.sound c.loop-pos.pos (within c.loop-pos.invariant.0 (omega arith)) (cache_in c.loop-pos.table).recency (sym c.dirty_at.ensures ∙ c.if-dirty_at.true)))
+
+pub overflow_add-given : goal.overflow_add-given
+overflow_add-given c =
+    let l = c.loop-pos in
+    omega (arith, l.invariant.0.kept.fits, l.invariant.2, c.well_formed.1.0, left_write (cache_in c.loop-pos.table) c.loop-pos.invariant.0.kept.did.holds.steady.sound c.loop-pos.pos (within c.loop-pos.invariant.0 (omega arith)) (cache_in c.loop-pos.table).recency (sym c.dirty_at.ensures ∙ c.if-dirty_at.true))
+
+pub overflow_add-pos : goal.overflow_add-pos
+overflow_add-pos c =
+    let k = c.loop-pos.invariant.0 in
+    omega (arith, k.listed_is, k.kept.did.holds.listed, k.kept.did.holds.steady.rows)
+
+pub loop-pos-smaller-then-dirty_at : goal.loop-pos-smaller-then-dirty_at
+loop-pos-smaller-then-dirty_at c = omega arith
+
+pub loop-pos-preserved-then-dirty_at : goal.loop-pos-preserved-then-dirty_at
+loop-pos-preserved-then-dirty_at c =
+    let l = c.loop-pos in (
+      rw c.less-missing.ensures (writing_in (writing_write l.invariant.0 (omega arith) c.if-missing-eq0.false (sym c.dirty_at.ensures ∙ c.if-dirty_at.true) (gave c.write_at.ensures))),
+      omega (arith, c.write_at.auto.table, l.invariant.1),
+      omega (arith, c.write_at.auto.orders, l.invariant.2),
+    )
+
+pub overflow_add-pos-else-dirty_at : goal.overflow_add-pos-else-dirty_at
+overflow_add-pos-else-dirty_at c =
+    let k = c.loop-pos.invariant.0 in
+    omega (arith, k.listed_is, k.kept.did.holds.listed, k.kept.did.holds.steady.rows)
+
+pub loop-pos-smaller : goal.loop-pos-smaller
+loop-pos-smaller c = omega arith
+
+pub loop-pos-preserved : goal.loop-pos-preserved
+loop-pos-preserved c =
+    let l = c.loop-pos in
+    (writing_skip l.invariant.0 (omega arith) (sym c.dirty_at.ensures ∙ c.if-dirty_at.false), l.invariant.1, l.invariant.2)
+
+pub shape_of-table : goal.shape_of-table
+shape_of-table c = omega (arith, c.loop-pos.invariant.1)
+
+pub shape_of-orders : goal.shape_of-orders
+shape_of-orders c = omega (arith, c.loop-pos.invariant.2)
+
+pub returns : goal.returns
+returns c = writing_end c.loop-pos.invariant.0 (omega arith)

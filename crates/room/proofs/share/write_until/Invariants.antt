@@ -1,0 +1,23 @@
+-- What the rule does from the place reached is what it does from the start, and the missing bytes carried along are those of the table's
+-- cache.
+use Prim.Native.Nat.{◌+◌, ◌-◌}
+use mathlib.Core.Path.{◌≡◌, refl, sym, ◌∙◌}
+use lib.ListN.{length}
+use Rattle.rules.proofs.Moved.{left}
+use Rattle.rules.specs.Cache.{amend_at}
+use Rattle.rules.specs.Entries.{cleaned}
+use Rattle.layout.specs.Picture.{cache_in, rest_in}
+use Rattle.table.specs.Told.{listed_at}
+use Rattle.room.proofs.Kept.{gave, kept_good, left_write}
+use Rattle.room.proofs.Writing.{Writing, writing_start, within, writing_skip, writing_write, writing_met, writing_end, writing_in}
+use native.Mathlib.Omega.{arith}
+use borrow.Author.Rules.{rules}
+use Rattle.room.proofs.share.write_until.Given as goal
+
+abbrev pub invariant-loop-pos : goal.invariant-loop-pos
+invariant-loop-pos l =
+    Writing l.size (cache_in l.initial.table) l.rows l.before (rest_in l.initial.table) l.initial.orders l.listed l.table l.orders l.missing l.pos l.given (cache_in l.table)
+    × (length l.table ≡ length l.initial.table) × (length l.orders ≡ length l.initial.orders)
+
+abbrev pub decreases-loop-pos : goal.decreases-loop-pos
+decreases-loop-pos l = l.listed - l.pos

@@ -1,0 +1,9 @@
+-- A line ends within the text, so each turn starts further on and within it.
+use Rattle.std.proofs.Common.{◌-◌, ◌≤◌, length}
+use Rattle.shell.proofs.input.run_lines.Given as goal
+
+abbrev pub invariant-loop-at : goal.invariant-loop-at
+invariant-loop-at g l = l.at ≤ length l.text
+
+abbrev pub decreases-loop-at : goal.decreases-loop-at
+decreases-loop-at g l = length l.text - l.at

@@ -1,0 +1,8 @@
+-- The header word pictures the cache's mode.
+use borrow.Author.Rules.{rules}
+use Rattle.layout.specs.Picture.{cache_in}
+use Rattle.table.proofs.header.mode.Goals as goal
+
+pub returns : goal.returns
+unfolding cache_in
+returns c = c.mode_of.ensures

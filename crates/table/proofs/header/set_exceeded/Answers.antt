@@ -1,0 +1,7 @@
+-- One header word is written.
+use borrow.Author.Rules.{rules}
+use Rattle.table.proofs.Tuned.{exceeded_holds}
+use Rattle.table.proofs.header.set_exceeded.Goals as goal
+
+pub returns : goal.returns
+returns c = rw c.flag_word.ensures (exceeded_holds c.requires c.args.exceeded)

@@ -1,0 +1,8 @@
+-- The header words picture the cache's settings.
+use borrow.Author.Rules.{rules}
+use Rattle.layout.specs.Picture.{cache_in}
+use Rattle.table.proofs.header.settings.Goals as goal
+
+pub returns : goal.returns
+unfolding cache_in
+returns c = c.settings_at.ensures

@@ -1,0 +1,29 @@
+use Prim.Native.Nat.{◌≤◌, ◌-◌}
+use mathlib.Core.Path.{◌≡◌, refl, ◌∙◌}
+use native.Mathlib.Omega.{arith}
+use lib.ListN.{length}
+use borrow.Author.Rules.{rules}
+use Rattle.rules.specs.Cache.{with_rows}
+use Rattle.layout.specs.Picture.{encode, cache_in, rest_in}
+use Rattle.table.proofs.Aged.{aged_to, age_start, age_step, age_holds}
+use Rattle.table.proofs.idle.age_all.Goals as goal
+
+pub loop-i-init : goal.loop-i-init
+loop-i-init c = (search rules, refl, age_start c.requires.good)
+
+pub age_row-requires : goal.age_row-requires
+age_row-requires c =
+    omega (arith, c.requires.size, c.requires.good.long, c.loop-i.invariant.1)
+
+pub loop-i-preserved : goal.loop-i-preserved
+loop-i-preserved c =
+    let g = c.requires in
+    let l = c.loop-i in
+    (search rules, c.age_row.auto.table ∙ l.invariant.1, c.age_row.ensures ∙ age_step g.good l.i (omega (arith, g.size)) l.invariant.2)
+
+pub shape_of-table : goal.shape_of-table
+shape_of-table c = omega (arith, c.loop-i.invariant.1)
+
+pub returns : goal.returns
+returns c =
+    age_holds c.requires.good c.loop-i.i (omega (arith, c.requires.size)) c.loop-i.invariant.2

@@ -1,0 +1,16 @@
+-- After i rows those are older and the others as they were.
+use Prim.Native.Nat.{◌≤◌, ◌-◌}
+use mathlib.Core.Path.{◌≡◌, refl, ◌∙◌}
+use native.Mathlib.Omega.{arith}
+use lib.ListN.{length}
+use borrow.Author.Rules.{rules}
+use Rattle.rules.specs.Cache.{with_rows}
+use Rattle.layout.specs.Picture.{encode, cache_in, rest_in}
+use Rattle.table.proofs.Aged.{aged_to, age_start, age_step, age_holds}
+use Rattle.table.proofs.idle.age_all.Given as goal
+
+abbrev pub invariant-loop-i : goal.invariant-loop-i
+invariant-loop-i l = (l.i ≤ l.rows) × (length l.table ≡ length l.initial.table) × (l.table ≡ encode (with_rows (aged_to l.i (cache_in l.initial.table).rows) (cache_in l.initial.table).recency (cache_in l.initial.table)) (rest_in l.initial.table))
+
+abbrev pub decreases-loop-i : goal.decreases-loop-i
+decreases-loop-i l = l.rows - l.i

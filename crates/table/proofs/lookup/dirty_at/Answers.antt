@@ -1,0 +1,12 @@
+-- The words of a listed row are those of its entry.
+use mathlib.Core.Option.{some}
+use mathlib.Core.Path.{ap, sym, ◌∙◌}
+use borrow.Author.Rules.{rules}
+use Rattle.table.proofs.Told.{row_fits, read_get, told_dirty}
+use Rattle.table.proofs.lookup.dirty_at.Goals as goal
+
+pub entry_at-e-requires : goal.entry_at-e-requires
+entry_at-e-requires c = row_fits c.requires.0 c.recency_row-row.ensures
+
+pub returns : goal.returns
+returns c = told_dirty _ _ _ (read_get c.requires.0 c.recency_row-row.ensures ∙ ap some (sym c.entry_at-e.ensures))

@@ -1,0 +1,13 @@
+-- The words of an address's row are those of its entry.
+use mathlib.Core.Option.{some}
+use mathlib.Core.Path.{ap, sym, ◌∙◌}
+use Rattle.table.proofs.Told.{row_fits, read_get}
+use Rattle.table.proofs.lookup.entry_of.Goals as goal
+
+pub entry_at-requires : goal.entry_at-requires
+entry_at-requires c =
+    row_fits c.requires.0 c.requires.1
+
+pub returns : goal.returns
+returns c =
+    read_get c.requires.0 c.requires.1 ∙ ap some (sym c.entry_at.ensures)

@@ -1,0 +1,8 @@
+-- The entry is clean in its row, and the order names it.
+use borrow.Author.Rules.{rules}
+use Rattle.table.proofs.orders.write_row.Goals as goal
+
+pub returns : goal.returns
+returns c =
+    let cleans = c.clean_row-size.ensures in
+    record { holds = cleans.holds; size = cleans.size; orders = rw cleans.size at c.order_put.ensures }

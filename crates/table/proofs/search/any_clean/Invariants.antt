@@ -1,0 +1,19 @@
+-- Whether the list from i on has a clean entry is whether the list has.
+use Prim.Native.Nat.{◌≤◌, ◌-◌}
+use mathlib.Core.Path.{◌≡◌, refl, sym, ◌∙◌}
+use native.Mathlib.Omega.{arith}
+use lib.ListN.{length, drop}
+use borrow.Author.Rules.{rules}
+use borrow.Author.Tests.{not-true, not-false}
+use Rattle.rules.specs.Addresses.{some_address}
+use Rattle.rules.specs.Rows.{clean_at}
+use Rattle.layout.specs.Picture.{cache_in}
+use Rattle.table.proofs.Passes.{some_end}
+use Rattle.table.proofs.Turns.{clean_stop, clean_on}
+use Rattle.table.proofs.search.any_clean.Given as goal
+
+abbrev pub invariant-loop-i : goal.invariant-loop-i
+invariant-loop-i l = (l.i ≤ l.n) × (l.n ≡ length (cache_in l.table).recency) × (some_address (clean_at (cache_in l.table).rows) (drop l.i (cache_in l.table).recency) ≡ some_address (clean_at (cache_in l.table).rows) (cache_in l.table).recency)
+
+abbrev pub decreases-loop-i : goal.decreases-loop-i
+decreases-loop-i l = l.n - l.i

@@ -1,0 +1,18 @@
+-- Whether a row from i on is held is whether any is.
+use Prim.Native.Nat.{◌≤◌, ◌-◌}
+use mathlib.Core.Path.{◌≡◌, refl, sym, ◌∙◌}
+use native.Mathlib.Omega.{arith}
+use lib.ListN.{drop}
+use borrow.Author.Rules.{rules}
+use Rattle.rules.specs.Entries.{is_held}
+use Rattle.rules.specs.Rows.{some_entry}
+use Rattle.layout.specs.Picture.{cache_in}
+use Rattle.table.proofs.Passes.{entry_end}
+use Rattle.table.proofs.Turns.{held_stop, held_on}
+use Rattle.table.proofs.search.any_held.Given as goal
+
+abbrev pub invariant-loop-i : goal.invariant-loop-i
+invariant-loop-i l = (l.i ≤ l.rows) × (some_entry (λ e. is_held e.hold) (drop l.i (cache_in l.table).rows) ≡ some_entry (λ e. is_held e.hold) (cache_in l.table).rows)
+
+abbrev pub decreases-loop-i : goal.decreases-loop-i
+decreases-loop-i l = l.rows - l.i

@@ -1,0 +1,15 @@
+-- The place has the address; else it is searched for.
+use Rattle.table.specs.declared.lookup.Found.TheVariants.{At}
+use Rattle.table.specs.Asked.{PlaceIn}
+use Rattle.table.proofs.Told.{key_here, found_here}
+use Rattle.table.proofs.Between.{place_at}
+use Rattle.layout.specs.Picture.{row_number, addresses, cache_in}
+use Rattle.layout.proofs.Numbers.{rising_addresses}
+use mathlib.Core.Path.{sym, ap, ap₂, ◌∙◌}
+use Prim.Native.Nat.{ℕ}
+use native.Mathlib.Omega.{arith}
+use borrow.Author.Rules.{rules}
+use Rattle.taken_list.proofs.find_next.Goals as goal
+
+pub returns-then-key_at-address : goal.returns-then-key_at-address
+returns-then-key_at-address c = let g = c.requires.0 in let a = c.args.address in let rows = (cache_in c.args.table.now).rows in let p : PlaceIn (addresses rows) a c.args.near = record { low = omega (arith, c.requires.1); same = sym c.key_at.ensures ∙ c.if-key_at-address.true } in ap₂ (λ (x y : ℕ). At x y) (place_at (addresses rows) a c.args.near (rising_addresses rows g.good.steady.sound.distinct) p.low p.same) (c.address_row-row.ensures.number ∙ ap (row_number rows) p.same) ∙ sym (found_here rows a (key_here g a _ p))
