@@ -43,7 +43,7 @@ returns-in-Refused c =
 pub carry_out-done-requires : goal.carry_out-done-requires
 carry_out-done-requires c = (
   not_refused c.args.table.now c.args.orders.now c.args.message.now c.args.request c.requires.0 c.refusal_of-verdict.ensures c.in_default-verdict.is,
-  (λ e. miss (0 ∷ 1 ∷ 2 ∷ 3 ∷ 4 ∷ 5 ∷ 6 ∷ 7 ∷ 8 ∷ 9 ∷ 11 ∷ []) 10 tt (rw e at c.in_default.in_default-own.keys2)),
+  c.in_default.not-Take,
   c.find_named-found.ensures,
   c.requires.1,
 )
