@@ -8,10 +8,9 @@ use native.Mathlib.Nat.{le_refl}
 use native.Mathlib.Omega.{arith}
 use Rattle.fraction.specs.Fraction.{size_product}
 use Rattle.settings.specs.declared.Settings.{Settings}
-use Rattle.rules.specs.Cache.{Cache, minimum_clean}
-use Rattle.rules.specs.Entries.{if◌then◌else◌}
+use Rattle.rules.specs.Cache.{Cache}
 use Rattle.rules.specs.Limits.{most_rows, most_size}
-use Rattle.rules.specs.Room.{clean_bytes, unused_bytes, share_missing}
+use Rattle.rules.specs.Room.{clean_bytes, share_missing}
 use Rattle.rules.specs.Rows.{get, held_bytes}
 use Rattle.rules.specs.declared.entry.Entry.{Entry}
 use Rattle.rules.specs.declared.entry.Row.{Row}

@@ -1,6 +1,6 @@
 -- The words of a fresh cache: a head, zeros for the rows, all ones for the runs.
 use Prim.Native.Nat.{ℕ, zero, suc, ◌+◌, ◌*◌, ◌-◌}
-use mathlib.Core.List.{List, [], ◌∷◌, ◌++◌, append_assoc}
+use mathlib.Core.List.{List, [], ◌++◌, append_assoc}
 use mathlib.Core.Path.{◌≡◌, refl, sym, ap, ◌∙◌}
 use native.Mathlib.Omega.{arith}
 use lib.ListN.{length, drop, replicate, length-append, length-replicate, replicate-append-replicate}
@@ -10,7 +10,7 @@ use Rattle.settings_words.proofs.Flat.{words_length}
 use Rattle.rules.specs.declared.entry.Row.TheVariants.{Free}
 use Rattle.settings.specs.declared.Mode.{Mode}
 use Rattle.rules.specs.Cache.{fresh}
-use Rattle.layout.specs.Layout.{ones, version, header_words, width, recency_at, layout_words, mode_word, settings_at}
+use Rattle.layout.specs.Layout.{ones, header_words, width, recency_at, layout_words, settings_at}
 use Rattle.layout.specs.Leaves.{put_settings, fill_part}
 use Rattle.layout.specs.Picture.{addresses, rows_words, run, first_words, encode}
 use Rattle.layout.proofs.Leaves.{over_next}

@@ -1,5 +1,5 @@
 -- What is known of a table within a request: its words are those of a steady cache.
-use Rattle.std.specs.Prelude.{ℕ, ◌+◌, ◌≤◌, false, ◌≡◌, List, length}
+use Rattle.std.specs.Prelude.{ℕ, ◌≤◌, false, ◌≡◌, List, length}
 use Rattle.std.proofs.Math.Option.{some}
 use Rattle.settings.specs.Validation.{first_bad}
 use Rattle.settings_words.specs.FloatsFit.{FloatsFit}

@@ -1,9 +1,9 @@
 -- One byte: what the rules say at each place, and what the code does there.
-use Prim.Native.Nat.{ℕ, zero, suc, ◌+◌, ◌*◌, ◌-◌, ◌<◌, ◌≤◌, ◌^◌, min}
-use mathlib.Core.Bool.{Bool, true, false, ◌||◌}
+use Prim.Native.Nat.{ℕ, zero, suc, ◌+◌, ◌-◌, ◌<◌, ◌≤◌, ◌^◌}
+use mathlib.Core.Bool.{Bool, ◌||◌}
 use mathlib.Core.List.{List, [], ◌∷◌, ◌++◌}
 use mathlib.Core.Logic.{⊎_elim}
-use mathlib.Core.Path.{◌≡◌, refl, sym, ap, ◌∙◌}
+use mathlib.Core.Path.{◌≡◌, sym, ap, ◌∙◌}
 use native.Mathlib.Nat.{eq-or-lt_of_le}
 use native.Mathlib.Numerals.{add-one}
 use native.Mathlib.Omega.{arith}
@@ -12,16 +12,16 @@ use lib.ListN.{length, length-append}
 use borrow.Author.Tests.{lt-ltb, le-ltb, eq-eqb, ne_eqb}
 use Rattle.rules.proofs.Lists.{elem_append}
 use Rattle.rules.proofs.Messages.{at}
-use Rattle.rules.proofs.Tests.{or_false, swap}
+use Rattle.rules.proofs.Tests.{or_false}
 use Rattle.rules.specs.Addresses.{elem}
 use Rattle.rules.specs.Entries.{if◌then◌else◌}
 use Rattle.rules.specs.Limits.{all_ones}
 use Rattle.rules.specs.Messages as messages
 use Rattle.rules.specs.Messages.{Reading, going, wrong, must, tag, number_byte, count_byte, address_byte, last_byte, feed, power256, Within}
-use Rattle.message.specs.Feeding.{having, Keeps, Sound, expects, fed_to, KeepsTo, FedIs, Feeds}
+use Rattle.message.specs.Feeding.{having, Keeps, Sound, expects, Feeds}
 use Rattle.message.specs.declared.feed.Reader.{Reader}
 use Rattle.message.specs.declared.feed.Fed.{Fed}
-use Rattle.message.specs.declared.feed.Fed.TheVariants.{Going, Address, Wrong}
+use Rattle.message.specs.declared.feed.Fed.TheVariants.{Going, Wrong}
 
 -- ---- the rules at each place
 

@@ -1,8 +1,7 @@
 -- A message read whole: byte after byte, or an address field at a time.
 use Prim.Native.Nat.{ℕ, zero, suc, ◌+◌, ◌*◌, ◌-◌, ◌<◌, ◌≤◌}
-use mathlib.Core.Bool.{Bool, true, false, ◌||◌}
-use mathlib.Core.List.{List, [], ◌∷◌, ◌++◌, append-nil}
-use mathlib.Core.Logic.{⊎_elim}
+use mathlib.Core.Bool.{Bool, true, ◌||◌}
+use mathlib.Core.List.{List, [], ◌∷◌, ◌++◌}
 use mathlib.Core.Path.{◌≡◌, refl, sym, ap, ap₂, subst, ◌∙◌}
 use native.Mathlib.Nat.{add_assoc, add-zero}
 use native.Mathlib.Numerals.{add-one}
@@ -10,17 +9,16 @@ use native.Mathlib.Omega.{arith}
 use lib.Dec.{eqb}
 use lib.ListN.{length, get_or, set, take, drop, length-append, length-set}
 use lib.Seq.{take-suc, take-add, take-length, take-set-le, get_or-set_same, drop-cons}
-use borrow.Author.Tests.{eq-eqb, ne_eqb, eqb-true}
+use borrow.Author.Tests.{eqb-true}
 use Rattle.rules.proofs.Messages.{at, feed_append, stays_wrong, tag_three}
 use Rattle.rules.proofs.Readers.{WithinAt, fed, words_on, fresh_within}
 use Rattle.rules.proofs.Tests.{both, split}
 use Rattle.rules.specs.Addresses.{elem}
-use Rattle.rules.specs.Entries.{if◌then◌else◌}
 use Rattle.rules.specs.Limits.{all_ones, last_number, most_rows}
 use Rattle.rules.specs.Messages as messages
 use Rattle.rules.specs.Messages.{Reading, going, wrong, fresh_reader, feed, feed_on, feed_all, power256, Message, message_in, read_message}
-use Rattle.message.specs.Feeding.{having, Keeps, Sound, Feeds}
-use Rattle.message.specs.Reads.{after, fresh_code, Kept, Reads, Past, address_head, four_at, number_at, read_as, ended_as, KeptOf}
+use Rattle.message.specs.Feeding.{having, Sound, Feeds}
+use Rattle.message.specs.Reads.{after, fresh_code, Kept, Reads, Past, address_head, number_at, read_as, ended_as, KeptOf}
 use Rattle.message.specs.declared.feed.Reader.{Reader}
 use Rattle.message.specs.declared.feed.Fed.TheVariants.{Going, Address, Wrong}
 use Rattle.message.specs.declared.read.Behind.{Behind}

@@ -1,5 +1,5 @@
 -- Writing a message.
-use Rattle.std.specs.Prelude.{ℕ, ◌+◌, ◌*◌, Bool, true, false, List, ◌∷◌, ◌++◌, ltb, length, drop}
+use Rattle.std.specs.Prelude.{ℕ, ◌+◌, ◌*◌, List, ◌∷◌, ◌++◌, ltb, length, drop}
 use Rattle.rules.specs.declared.answer.Refusal.TheVariants.{OrderWords, Malformed}
 use Rattle.rules.specs.Entries.{if◌then◌else◌}
 use Rattle.rules.specs.Limits.{most_listed}

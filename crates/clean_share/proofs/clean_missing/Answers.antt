@@ -1,9 +1,5 @@
-use Prim.Native.Nat.{◌≤◌, ◌-◌}
-use mathlib.Core.Path.{◌≡◌}
 use native.Mathlib.Omega.{arith}
-use lib.ListN.{length, drop}
 use borrow.Author.Rules.{rules}
-use Rattle.rules.specs.Room.{clean_bytes}
 use Rattle.layout.specs.Picture.{cache_in}
 use Rattle.table.proofs.Passes.{clean_next, clean_end}
 use Rattle.clean_share.proofs.clean_missing.Goals as goal

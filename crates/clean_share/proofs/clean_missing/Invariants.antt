@@ -1,12 +1,9 @@
 -- What is left, less the clean bytes from the place reached on, is what is missing in all; an entry that has all that is left ends it.
 use Prim.Native.Nat.{◌≤◌, ◌-◌}
 use mathlib.Core.Path.{◌≡◌}
-use native.Mathlib.Omega.{arith}
 use lib.ListN.{length, drop}
-use borrow.Author.Rules.{rules}
 use Rattle.rules.specs.Room.{clean_bytes}
 use Rattle.layout.specs.Picture.{cache_in}
-use Rattle.table.proofs.Passes.{clean_next, clean_end}
 use Rattle.clean_share.proofs.clean_missing.Given as goal
 
 abbrev pub invariant-loop-pos : goal.invariant-loop-pos

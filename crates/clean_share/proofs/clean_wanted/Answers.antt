@@ -3,7 +3,6 @@ use mathlib.Core.Path.{refl}
 use Rattle.layout.specs.Picture.{cache_in}
 use Rattle.clean_share.proofs.Finding.{wanted_found, held_fits}
 use native.Mathlib.Omega.{arith}
-use borrow.Author.Rules.{rules}
 use Rattle.clean_share.proofs.clean_wanted.Goals as goal
 
 pub overflow_add-held : goal.overflow_add-held

@@ -1,11 +1,7 @@
-use Prim.Native.Nat.{◌-◌}
 use mathlib.Core.Path.{sym, ◌∙◌}
 use native.Mathlib.Omega.{arith}
-use lib.ListN.{length}
-use borrow.Author.Rules.{rules}
-use Rattle.layout.specs.Picture.{cache_in}
 use Rattle.table.proofs.Told.{found_place}
-use Rattle.taken_list.proofs.Marked.{Marked, marked_start, marked_on, bad_absent, bad_again, good_list, row_low, place_low, told_found}
+use Rattle.taken_list.proofs.Marked.{marked_start, marked_on, bad_absent, bad_again, good_list, row_low, place_low, told_found}
 use Rattle.taken_list.proofs.bad_list.Goals as goal
 
 pub loop-i-init : goal.loop-i-init

@@ -1,6 +1,5 @@
 -- What is found at the address, and the entry read there, tell whether it is dirty.
 use mathlib.Core.Path.{sym, ◌∙◌}
-use borrow.Author.Rules.{rules}
 use Rattle.layout.specs.Picture.{cache_in}
 use Rattle.table.proofs.Told.{found_at, told_dirty}
 use Rattle.taken_list.proofs.Marked.{in_dirty, in_clean, in_none}

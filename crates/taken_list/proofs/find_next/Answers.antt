@@ -8,7 +8,6 @@ use Rattle.layout.proofs.Numbers.{rising_addresses}
 use mathlib.Core.Path.{sym, ap, ap₂, ◌∙◌}
 use Prim.Native.Nat.{ℕ}
 use native.Mathlib.Omega.{arith}
-use borrow.Author.Rules.{rules}
 use Rattle.taken_list.proofs.find_next.Goals as goal
 
 pub returns-then-key_at-address : goal.returns-then-key_at-address

@@ -1,5 +1,4 @@
 -- The mode that was read decides which entries may be evicted.
-use borrow.Author.Rules.{rules}
 use Rattle.layout.specs.Picture.{cache_in}
 use Rattle.conditions.proofs.Evictable.{evictable_alone, evictable_lead, evictable_standby}
 use Rattle.conditions.proofs.full.any_evictable.Goals as goal

@@ -1,6 +1,5 @@
 -- Each test that was made decides, in the rule's order.
 use mathlib.Core.Path.{sym, ◌∙◌}
-use borrow.Author.Rules.{rules}
 use Rattle.layout.specs.Picture.{cache_in}
 use Rattle.conditions.proofs.Evictable.{row_free, row_off, row_evictable}
 use Rattle.conditions.proofs.full.no_row.Goals as goal

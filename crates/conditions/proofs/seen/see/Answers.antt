@@ -2,7 +2,6 @@
 use mathlib.Core.Path.{sym, ◌∙◌}
 use Rattle.layout.specs.Picture.{cache_in}
 use Rattle.table.proofs.Told.{found_at, found_no}
-use borrow.Author.Rules.{rules}
 use Rattle.conditions.proofs.seen.see.Goals as goal
 
 pub entry_of-requires : goal.entry_of-requires

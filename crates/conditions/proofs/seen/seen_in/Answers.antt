@@ -1,5 +1,4 @@
 -- Each field is its own test of the entry.
-use borrow.Author.Rules.{rules}
 use Rattle.conditions.proofs.seen.seen_in.Goals as goal
 
 pub returns : goal.returns

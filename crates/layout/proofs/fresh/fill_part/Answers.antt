@@ -1,6 +1,5 @@
 -- The part of the table is lent and comes back as v throughout.
 use native.Mathlib.Omega.{arith}
-use borrow.Author.Rules.{rules}
 use Rattle.layout.specs.Leaves.{fill_part}
 use Rattle.layout.proofs.Leaves.{over_filled}
 use Rattle.layout.proofs.fresh.fill_part.Goals as goal

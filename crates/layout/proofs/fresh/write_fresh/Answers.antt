@@ -1,5 +1,4 @@
 -- The four writes follow one another without a gap, so the words are the head, the rows and the runs of a fresh cache, then the rest.
-use borrow.Author.Rules.{rules}
 use Rattle.layout.proofs.Emptied.{fresh_words}
 use Rattle.layout.proofs.fresh.write_fresh.Goals as goal
 

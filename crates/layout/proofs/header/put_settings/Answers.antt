@@ -1,5 +1,4 @@
 -- The settings' words are written from their place on.
-use borrow.Author.Rules.{rules}
 use Rattle.settings_words.specs.Words.{settings_words}
 use Rattle.layout.specs.Layout.{settings_at}
 use Rattle.layout.specs.Leaves.{put_settings}

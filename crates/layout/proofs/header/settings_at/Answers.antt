@@ -4,7 +4,6 @@ use mathlib.Core.Path.{ap, ◌∙◌}
 use native.Mathlib.Omega.{arith}
 use lib.ListN.{length, drop, length-drop}
 use lib.Seq.{take_all}
-use borrow.Author.Rules.{rules}
 use Rattle.settings_words.specs.Picture.{settings_of}
 use Rattle.layout.specs.Layout.{settings_at}
 use Rattle.layout.proofs.header.settings_at.Goals as goal

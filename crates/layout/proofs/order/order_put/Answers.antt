@@ -1,7 +1,6 @@
 -- The order's three words are written from its place on.
 use Prim.Native.Nat.{◌*◌}
 use mathlib.Core.List.{[], ◌∷◌}
-use borrow.Author.Rules.{rules}
 use Rattle.layout.specs.Leaves.{put_order}
 use Rattle.layout.specs.Picture.{order_words}
 use Rattle.layout.proofs.Leaves.{over_end}

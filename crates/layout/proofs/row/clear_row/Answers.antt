@@ -1,5 +1,4 @@
 -- Six zeros are written from the row's start on.
-use borrow.Author.Rules.{rules}
 use Rattle.rules.specs.declared.entry.Row.TheVariants.{Free}
 use Rattle.layout.specs.Layout.{width, row_at}
 use Rattle.layout.specs.Leaves.{put_row}

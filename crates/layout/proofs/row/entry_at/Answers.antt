@@ -1,5 +1,4 @@
 -- Each field is its word; the hold is read by hold_of.
-use borrow.Author.Rules.{rules}
 use Rattle.layout.specs.Picture.{entry_of}
 use Rattle.layout.proofs.row.entry_at.Goals as goal
 

@@ -1,5 +1,4 @@
 -- The part of the table that is the run is lent and comes back with the word taken out.
-use borrow.Author.Rules.{rules}
 use Rattle.words.specs.Runs.{removed}
 use Rattle.layout.specs.Leaves.{run_cut}
 use Rattle.layout.proofs.Leaves.{over_part}

@@ -1,8 +1,6 @@
 -- One byte more of a number, at the next place.
 use Rattle.message.proofs.Bytewise.{feeds_going, onward}
 use mathlib.Core.Path.{refl}
-use native.Mathlib.Omega.{arith}
-use borrow.Author.Rules.{rules}
 use Rattle.message.proofs.feed.address_byte.Goals as goal
 
 pub returns : goal.returns

@@ -1,6 +1,5 @@
 -- The test decides.
 use borrow.Author.Tests.{eq-eqb, ne_eqb}
-use native.Mathlib.Omega.{arith}
 use Rattle.message.proofs.feed.address_length.Goals as goal
 
 pub returns-then-place-eq17 : goal.returns-then-place-eq17

@@ -1,6 +1,5 @@
 -- The test decides.
 use borrow.Author.Tests.{eq-eqb, ne_eqb}
-use native.Mathlib.Omega.{arith}
 use Rattle.message.proofs.feed.count_head.Goals as goal
 
 pub returns-then-place-eq12 : goal.returns-then-place-eq12

@@ -1,7 +1,6 @@
 -- The byte is the one expected, or it is wrong.
 use Rattle.message.proofs.Bytewise.{expect_not, expect_is, feeds_going}
 use mathlib.Core.Path.{refl}
-use native.Mathlib.Omega.{arith}
 use Rattle.message.proofs.feed.expect.Goals as goal
 
 pub returns-then-b-expected : goal.returns-then-b-expected

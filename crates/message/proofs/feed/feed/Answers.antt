@@ -4,7 +4,6 @@ use Rattle.message.specs.Feeding.{having}
 use Rattle.rules.specs.Messages.{feed}
 use native.Mathlib.Omega.{arith}
 use native.Mathlib.Omega.{arith}
-use borrow.Author.Rules.{rules}
 use Rattle.message.proofs.feed.feed.Goals as goal
 
 pub returns-then-place-lt3 : goal.returns-then-place-lt3

@@ -1,8 +1,6 @@
 -- The address is whole, and is one more.
 use Rattle.message.proofs.Bytewise.{more_kept}
 use mathlib.Core.Path.{refl}
-use native.Mathlib.Omega.{arith}
-use borrow.Author.Rules.{rules}
 use Rattle.message.proofs.feed.last_byte.Goals as goal
 
 pub returns : goal.returns

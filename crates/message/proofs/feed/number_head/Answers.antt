@@ -1,6 +1,5 @@
 -- Each test that was made decides.
 use borrow.Author.Tests.{eq-eqb, ne_eqb}
-use native.Mathlib.Omega.{arith}
 use Rattle.message.proofs.feed.number_head.Goals as goal
 
 pub returns-then-place-eq0 : goal.returns-then-place-eq0

@@ -1,8 +1,6 @@
 -- Whether addresses are wanting decides which tag it has to be.
 use Rattle.message.proofs.Bytewise.{tag_wanting, tag_none}
 use mathlib.Core.Path.{sym, ◌∙◌}
-use native.Mathlib.Omega.{arith}
-use borrow.Author.Rules.{rules}
 use Rattle.message.proofs.feed.tag.Goals as goal
 
 pub returns-then-r : goal.returns-then-r

@@ -1,8 +1,6 @@
 -- Whether it was the last decides.
 use borrow.Author.Tests.{eq-eqb, ne_eqb}
 use native.Mathlib.Numerals.{add-one}
-use native.Mathlib.Omega.{arith}
-use borrow.Author.Rules.{rules}
 use Rattle.message.proofs.number.next_after.Goals as goal
 
 pub returns-then-number-eq-LAST : goal.returns-then-number-eq-LAST

@@ -1,6 +1,5 @@
 -- Three bytes are compared.
 use mathlib.Core.Path.{refl}
-use borrow.Author.Rules.{rules}
 use Rattle.message.proofs.read.address_head.Goals as goal
 
 pub returns : goal.returns

@@ -1,6 +1,5 @@
 -- The place decides.
 use borrow.Author.Tests.{eq-eqb, ne_eqb}
-use native.Mathlib.Omega.{arith}
 use Rattle.message.proofs.read.ended.Goals as goal
 
 pub returns-then-r-eq29 : goal.returns-then-r-eq29

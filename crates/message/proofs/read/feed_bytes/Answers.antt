@@ -1,9 +1,6 @@
-use Prim.Native.Nat.{◌≤◌, ◌-◌}
 use mathlib.Core.Path.{◌≡◌}
-use Rattle.message.specs.Reads.{after, Reads}
 use Rattle.message.proofs.Whole.{reads_sound, reads_on, wrong_on}
 use native.Mathlib.Omega.{arith}
-use borrow.Author.Rules.{rules}
 use Rattle.message.proofs.read.feed_bytes.Goals as goal
 
 pub loop-i-init : goal.loop-i-init

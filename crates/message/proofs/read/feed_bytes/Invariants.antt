@@ -1,10 +1,6 @@
 -- The first i bytes are read.
 use Prim.Native.Nat.{◌≤◌, ◌-◌}
-use mathlib.Core.Path.{◌≡◌}
 use Rattle.message.specs.Reads.{after, Reads}
-use Rattle.message.proofs.Whole.{reads_sound, reads_on, wrong_on}
-use native.Mathlib.Omega.{arith}
-use borrow.Author.Rules.{rules}
 use Rattle.message.proofs.read.feed_bytes.Given as goal
 
 abbrev pub invariant-loop-i : goal.invariant-loop-i

@@ -1,7 +1,6 @@
 -- What the byte leads to; a whole address is kept.
 use Rattle.message.proofs.Whole.{next_going, next_address, next_wrong}
 use native.Mathlib.Omega.{arith}
-use borrow.Author.Rules.{rules}
 use Rattle.message.proofs.read.feed_one.Goals as goal
 
 pub returns-in-Going : goal.returns-in-Going

@@ -1,10 +1,6 @@
-use Prim.Native.Nat.{◌≤◌, ◌+◌, ◌*◌, ◌-◌}
-use mathlib.Core.Path.{◌≡◌, refl, sym, ◌∙◌}
-use borrow.Author.Tests.{not-false}
-use Rattle.message.specs.Reads.{after, Reads}
+use mathlib.Core.Path.{refl, sym, ◌∙◌}
 use Rattle.message.proofs.Whole.{reads_sound, reads_field, reads_past}
 use native.Mathlib.Omega.{arith}
-use borrow.Author.Rules.{rules}
 use Rattle.message.proofs.read.read_fields.Goals as goal
 
 pub fields_end-end-requires : goal.fields_end-end-requires

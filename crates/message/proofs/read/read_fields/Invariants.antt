@@ -1,11 +1,7 @@
 -- Fields have been read up to a place.
 use Prim.Native.Nat.{◌≤◌, ◌+◌, ◌*◌, ◌-◌}
-use mathlib.Core.Path.{◌≡◌, refl, sym, ◌∙◌}
-use borrow.Author.Tests.{not-false}
+use mathlib.Core.Path.{◌≡◌}
 use Rattle.message.specs.Reads.{after, Reads}
-use Rattle.message.proofs.Whole.{reads_sound, reads_field, reads_past}
-use native.Mathlib.Omega.{arith}
-use borrow.Author.Rules.{rules}
 use Rattle.message.proofs.read.read_fields.Given as goal
 
 abbrev pub invariant-loop-taken : goal.invariant-loop-taken

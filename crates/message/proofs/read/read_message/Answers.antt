@@ -1,7 +1,6 @@
 -- The bytes before the fields, whole fields, and what is left.
 use Rattle.message.proofs.Whole.{reads_start, after_wrong, whole_wrong, whole_read}
 use native.Mathlib.Omega.{arith}
-use borrow.Author.Rules.{rules}
 use Rattle.message.proofs.read.read_message.Goals as goal
 
 pub feed_bytes-requires : goal.feed_bytes-requires

@@ -1,8 +1,6 @@
-use Prim.Native.Nat.{◌≤◌, ◌*◌, ◌-◌}
-use mathlib.Core.List.{◌++◌}
-use mathlib.Core.Path.{◌≡◌, refl, ◌∙◌}
-use lib.ListN.{length, take, drop, length-take, length-drop}
-use Rattle.rules.specs.Messages.{address_fields}
+use Prim.Native.Nat.{◌*◌, ◌-◌}
+use mathlib.Core.Path.{refl, ◌∙◌}
+use lib.ListN.{length, drop, length-take, length-drop}
 use Rattle.message.proofs.Putting.{fields_start, fields_next, fields_end}
 use native.Mathlib.Omega.{arith}
 use borrow.Author.Rules.{rules}

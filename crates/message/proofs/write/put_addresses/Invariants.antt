@@ -1,12 +1,9 @@
 -- The fields of the first i addresses stand there.
 use Prim.Native.Nat.{◌≤◌, ◌*◌, ◌-◌}
 use mathlib.Core.List.{◌++◌}
-use mathlib.Core.Path.{◌≡◌, refl, ◌∙◌}
-use lib.ListN.{length, take, drop, length-take, length-drop}
+use mathlib.Core.Path.{◌≡◌}
+use lib.ListN.{length, take, drop}
 use Rattle.rules.specs.Messages.{address_fields}
-use Rattle.message.proofs.Putting.{fields_start, fields_next, fields_end}
-use native.Mathlib.Omega.{arith}
-use borrow.Author.Rules.{rules}
 use Rattle.message.proofs.write.put_addresses.Given as goal
 
 abbrev pub invariant-loop-i : goal.invariant-loop-i

@@ -3,8 +3,6 @@ use Rattle.message.proofs.Putting.{put_behind}
 use Rattle.rules.specs.Messages.{bytes_of}
 use mathlib.Core.Path.{refl}
 use mathlib.Core.List.{[], ◌∷◌}
-use native.Mathlib.Omega.{arith}
-use borrow.Author.Rules.{rules}
 use Rattle.message.proofs.write.put_count.Goals as goal
 
 pub returns : goal.returns

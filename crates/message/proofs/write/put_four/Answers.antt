@@ -4,8 +4,6 @@ use Rattle.rules.specs.Messages.{bytes_of}
 use lib.ListN.{drop}
 use mathlib.Core.Path.{◌∙◌}
 use Prim.Native.Nat.{◌/◌}
-use native.Mathlib.Omega.{arith}
-use borrow.Author.Rules.{rules}
 use Rattle.message.proofs.write.put_four.Goals as goal
 
 pub returns : goal.returns

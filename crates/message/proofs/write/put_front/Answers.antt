@@ -4,8 +4,6 @@ use Rattle.rules.specs.Messages.{bytes_of}
 use lib.ListN.{drop}
 use mathlib.Core.Path.{sym, ◌∙◌}
 use mathlib.Core.List.{◌∷◌, append_assoc}
-use native.Mathlib.Omega.{arith}
-use borrow.Author.Rules.{rules}
 use Rattle.message.proofs.write.put_front.Goals as goal
 
 pub returns : goal.returns

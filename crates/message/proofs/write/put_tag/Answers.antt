@@ -2,7 +2,6 @@
 use Rattle.message.proofs.Putting.{tag_put}
 use lib.ListN.{length-set}
 use native.Mathlib.Omega.{arith}
-use borrow.Author.Rules.{rules}
 use Rattle.message.proofs.write.put_tag.Goals as goal
 
 pub bounds-part-1 : goal.bounds-part-1

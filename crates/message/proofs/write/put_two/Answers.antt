@@ -1,7 +1,5 @@
 -- Two stores.
 use Rattle.message.proofs.Putting.{two_put}
-use native.Mathlib.Omega.{arith}
-use borrow.Author.Rules.{rules}
 use Rattle.message.proofs.write.put_two.Goals as goal
 
 pub returns : goal.returns

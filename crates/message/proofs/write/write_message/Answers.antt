@@ -1,7 +1,5 @@
 -- The two tests; else the front, the fields and the end.
 use Rattle.message.proofs.Putting.{few_bytes, long_list, is_written_byte, all_put}
-use native.Mathlib.Omega.{arith}
-use borrow.Author.Rules.{rules}
 use Rattle.message.proofs.write.write_message.Goals as goal
 
 pub returns-then-bytes-fields : goal.returns-then-bytes-fields

@@ -1,5 +1,4 @@
 -- By the answer's case.
-use borrow.Author.Rules.{rules}
 use Rattle.numbers.proofs.answer.answer_of.Goals as goal
 
 pub returns-in-Accepted : goal.returns-in-Accepted

@@ -1,6 +1,4 @@
 -- The answer's numbers, and those of the change.
-use native.Mathlib.Omega.{arith}
-use borrow.Author.Rules.{rules}
 use Rattle.numbers.proofs.explained.explanation_of.Goals as goal
 
 pub returns : goal.returns

@@ -1,5 +1,4 @@
 -- Figure by figure.
-use borrow.Author.Rules.{rules}
 use Rattle.numbers.proofs.figures.figures_of.Goals as goal
 
 pub returns : goal.returns

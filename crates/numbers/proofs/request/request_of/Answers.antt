@@ -1,7 +1,6 @@
 -- Take and configure have their kinds behind those that `plain_of` reads.
 use mathlib.Core.List.{[], ◌∷◌}
 use mathlib.Core.Path.{sym, ap, ◌∙◌}
-use borrow.Author.Rules.{rules}
 use Rattle.rules.specs.declared.request.Request.TheVariants.{Take, Configure}
 use Rattle.numbers.specs.Meanings.{meaning, settings_of_raw, asked, plain_kinds, plain_of, asked_of_raw}
 use Rattle.numbers.proofs.Listed.{meaning_before, neither}

@@ -1,5 +1,4 @@
 -- Field by field; each rule and cap by its own function.
-use borrow.Author.Rules.{rules}
 use Rattle.numbers.specs.Meanings.{settings_of_raw}
 use Rattle.numbers.proofs.setting.settings_of.Goals as goal
 

@@ -1,5 +1,4 @@
 -- By the verdict's case.
-use borrow.Author.Rules.{rules}
 use Rattle.numbers.proofs.verdict.verdict_of.Goals as goal
 
 pub returns-in-Accepted : goal.returns-in-Accepted

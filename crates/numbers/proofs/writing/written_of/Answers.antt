@@ -1,6 +1,4 @@
 -- By what writing came to.
-use native.Mathlib.Omega.{arith}
-use borrow.Author.Rules.{rules}
 use Rattle.numbers.proofs.writing.written_of.Goals as goal
 
 pub returns-in-Bytes : goal.returns-in-Bytes

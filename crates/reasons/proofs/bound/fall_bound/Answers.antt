@@ -2,7 +2,6 @@
 use native.Mathlib.Omega.{arith}
 use Rattle.reasons.proofs.Bounds.{fall_cut, fall_uncut, fall_smallest, fall_above, fall_capped, fall_within}
 use native.Mathlib.Omega.{arith}
-use borrow.Author.Rules.{rules}
 use Rattle.reasons.proofs.bound.fall_bound.Goals as goal
 
 pub returns-then-raw-smallest : goal.returns-then-raw-smallest

@@ -2,7 +2,6 @@
 use native.Mathlib.Omega.{arith}
 use Rattle.reasons.proofs.Bounds.{flash_over, flash_cut, flash_off, flash_uncut}
 use native.Mathlib.Omega.{arith}
-use borrow.Author.Rules.{rules}
 use Rattle.reasons.proofs.bound.flash_bound.Goals as goal
 
 pub returns-then-largest-maximum : goal.returns-then-largest-maximum

@@ -1,6 +1,4 @@
 -- By the cases of the rule.
-use native.Mathlib.Omega.{arith}
-use borrow.Author.Rules.{rules}
 use Rattle.reasons.proofs.bound.increase_bound.Goals as goal
 
 pub returns-in-Off : goal.returns-in-Off

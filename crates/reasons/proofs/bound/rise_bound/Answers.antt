@@ -2,7 +2,6 @@
 use native.Mathlib.Omega.{arith}
 use Rattle.reasons.proofs.Bounds.{rise_cut, rise_uncut, rise_largest, rise_below, rise_capped, rise_within}
 use native.Mathlib.Omega.{arith}
-use borrow.Author.Rules.{rules}
 use Rattle.reasons.proofs.bound.rise_bound.Goals as goal
 
 pub returns-then-largest-raw : goal.returns-then-largest-raw

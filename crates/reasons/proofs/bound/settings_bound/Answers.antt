@@ -2,7 +2,6 @@
 use native.Mathlib.Omega.{arith}
 use Rattle.reasons.proofs.Bounds.{brought_down, brought_up, in_range}
 use native.Mathlib.Omega.{arith}
-use borrow.Author.Rules.{rules}
 use Rattle.reasons.proofs.bound.settings_bound.Goals as goal
 
 pub returns-then-s-maximum : goal.returns-then-s-maximum

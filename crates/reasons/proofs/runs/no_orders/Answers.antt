@@ -1,6 +1,5 @@
 -- All runs are empty.
 use mathlib.Core.Path.{refl, ◌∙◌}
-use borrow.Author.Rules.{rules}
 use Rattle.reasons.proofs.runs.no_orders.Goals as goal
 
 pub returns : goal.returns

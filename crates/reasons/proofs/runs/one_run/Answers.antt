@@ -1,8 +1,6 @@
 -- The run for the clean share is empty.
 use mathlib.Core.Path.{◌∙◌}
 use mathlib.Core.List.{append-nil}
-use native.Mathlib.Omega.{arith}
-use borrow.Author.Rules.{rules}
 use Rattle.reasons.proofs.runs.one_run.Goals as goal
 
 pub returns : goal.returns

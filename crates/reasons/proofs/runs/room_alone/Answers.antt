@@ -1,8 +1,6 @@
 -- The other runs are empty.
 use Rattle.reasons.specs.Runs.{room_runs}
 use Rattle.reasons.proofs.Emptied.{then_none}
-use native.Mathlib.Omega.{arith}
-use borrow.Author.Rules.{rules}
 use Rattle.reasons.proofs.runs.room_alone.Goals as goal
 
 pub returns : goal.returns

@@ -1,5 +1,4 @@
 -- The entry is placed, and its row put at the head if it is listed.
-use borrow.Author.Rules.{rules}
 use Rattle.table.proofs.Arrived.{add_holds}
 use Rattle.table.proofs.changes.add_entry.Goals as goal
 

@@ -1,5 +1,4 @@
 -- The mark is written in the entry's row.
-use borrow.Author.Rules.{rules}
 use Rattle.table.proofs.Told.{row_fits, told_size}
 use Rattle.table.proofs.Turned.{clean_holds}
 use Rattle.table.proofs.changes.clean_row.Goals as goal

@@ -1,5 +1,4 @@
 -- Each run is cut as far as it names rows, which leaves what cutting all of it would.
-use borrow.Author.Rules.{rules}
 use Rattle.table.proofs.Changed.{cut_both}
 use Rattle.table.proofs.changes.cut_runs.Goals as goal
 

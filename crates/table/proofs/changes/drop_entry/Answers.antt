@@ -1,6 +1,5 @@
 -- The two runs lose the row and the row is cleared: the words of the cache without the entry.
 use native.Mathlib.Omega.{arith}
-use borrow.Author.Rules.{rules}
 use Rattle.table.proofs.Changed.{drop_holds}
 use Rattle.table.proofs.Told.{row_fits, drop_row}
 use Rattle.table.proofs.changes.drop_entry.Goals as goal

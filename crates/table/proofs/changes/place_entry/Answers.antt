@@ -1,6 +1,5 @@
 -- The lowest free row gets the entry's words, and the address run its number at the address's place.
 use native.Mathlib.Omega.{arith}
-use borrow.Author.Rules.{rules}
 use Rattle.layout.specs.Picture.{cache_in}
 use Rattle.layout.proofs.Rows.{lowest_low}
 use Rattle.table.proofs.Arrived.{place_fits, place_words}

@@ -1,5 +1,4 @@
 -- The entry's words are written in its row; it keeps its address and is listed as before, so both runs stay.
-use borrow.Author.Rules.{rules}
 use Rattle.table.proofs.Changed.{set_holds}
 use Rattle.table.proofs.Told.{row_fits}
 use Rattle.table.proofs.changes.set_entry.Goals as goal

@@ -1,6 +1,5 @@
 -- The header word is the cache's.
 use mathlib.Core.Path.{refl}
-use borrow.Author.Rules.{rules}
 use Rattle.layout.specs.Picture.{cache_in}
 use Rattle.table.proofs.header.exceeded.Goals as goal
 

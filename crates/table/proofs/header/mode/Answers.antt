@@ -1,5 +1,4 @@
 -- The header word pictures the cache's mode.
-use borrow.Author.Rules.{rules}
 use Rattle.layout.specs.Picture.{cache_in}
 use Rattle.table.proofs.header.mode.Goals as goal
 

@@ -1,6 +1,5 @@
 -- The header word is the cache's.
 use mathlib.Core.Path.{refl}
-use borrow.Author.Rules.{rules}
 use Rattle.layout.specs.Picture.{cache_in}
 use Rattle.table.proofs.header.next_number.Goals as goal
 

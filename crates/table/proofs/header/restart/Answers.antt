@@ -1,6 +1,5 @@
 -- Both counters are set to 0, and the flag too.
 use mathlib.Core.Bool.{false}
-use borrow.Author.Rules.{rules}
 use Rattle.rules.specs.Cache.{with_exceeded}
 use Rattle.layout.proofs.Held.{holds_good, onward}
 use Rattle.table.proofs.header.restart.Goals as goal

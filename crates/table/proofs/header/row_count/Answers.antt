@@ -1,5 +1,4 @@
 -- The table has as many rows as the second word says.
-use borrow.Author.Rules.{rules}
 use Rattle.layout.proofs.Held.{holds_count}
 use Rattle.table.proofs.header.row_count.Goals as goal
 

@@ -1,5 +1,4 @@
 -- One header word is written, and the count is within its stop.
-use borrow.Author.Rules.{rules}
 use Rattle.table.proofs.Tuned.{count_holds}
 use Rattle.table.proofs.header.set_count.Goals as goal
 

@@ -1,7 +1,6 @@
 -- Two header words are written; what is steady does not speak of them.
 use native.Mathlib.Omega.{arith}
 use lib.ListN.{length-set}
-use borrow.Author.Rules.{rules}
 use Rattle.table.proofs.Tuned.{counters_holds}
 use Rattle.table.proofs.header.set_counters.Goals as goal
 

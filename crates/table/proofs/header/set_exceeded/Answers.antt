@@ -1,5 +1,4 @@
 -- One header word is written.
-use borrow.Author.Rules.{rules}
 use Rattle.table.proofs.Tuned.{exceeded_holds}
 use Rattle.table.proofs.header.set_exceeded.Goals as goal
 

@@ -1,5 +1,4 @@
 -- One header word is written, and the maximum stays within its range.
-use borrow.Author.Rules.{rules}
 use Rattle.table.proofs.Tuned.{maximum_holds}
 use Rattle.table.proofs.header.set_maximum.Goals as goal
 

@@ -1,5 +1,4 @@
 -- One header word is written.
-use borrow.Author.Rules.{rules}
 use Rattle.table.proofs.Tuned.{next_holds}
 use Rattle.table.proofs.header.set_next.Goals as goal
 

@@ -1,5 +1,4 @@
 -- The settings' words and the maximum are written, and they agree.
-use borrow.Author.Rules.{rules}
 use Rattle.table.proofs.Tuned.{settings_holds}
 use Rattle.table.proofs.header.set_settings.Goals as goal
 

@@ -1,5 +1,4 @@
 -- The header words picture the cache's settings.
-use borrow.Author.Rules.{rules}
 use Rattle.layout.specs.Picture.{cache_in}
 use Rattle.table.proofs.header.settings.Goals as goal
 

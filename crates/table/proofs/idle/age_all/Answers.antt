@@ -1,11 +1,7 @@
-use Prim.Native.Nat.{◌≤◌, ◌-◌}
-use mathlib.Core.Path.{◌≡◌, refl, ◌∙◌}
+use mathlib.Core.Path.{refl, ◌∙◌}
 use native.Mathlib.Omega.{arith}
-use lib.ListN.{length}
 use borrow.Author.Rules.{rules}
-use Rattle.rules.specs.Cache.{with_rows}
-use Rattle.layout.specs.Picture.{encode, cache_in, rest_in}
-use Rattle.table.proofs.Aged.{aged_to, age_start, age_step, age_holds}
+use Rattle.table.proofs.Aged.{age_start, age_step, age_holds}
 use Rattle.table.proofs.idle.age_all.Goals as goal
 
 pub loop-i-init : goal.loop-i-init

@@ -1,12 +1,10 @@
 -- After i rows those are older and the others as they were.
 use Prim.Native.Nat.{◌≤◌, ◌-◌}
-use mathlib.Core.Path.{◌≡◌, refl, ◌∙◌}
-use native.Mathlib.Omega.{arith}
+use mathlib.Core.Path.{◌≡◌}
 use lib.ListN.{length}
-use borrow.Author.Rules.{rules}
 use Rattle.rules.specs.Cache.{with_rows}
 use Rattle.layout.specs.Picture.{encode, cache_in, rest_in}
-use Rattle.table.proofs.Aged.{aged_to, age_start, age_step, age_holds}
+use Rattle.table.proofs.Aged.{aged_to}
 use Rattle.table.proofs.idle.age_all.Given as goal
 
 abbrev pub invariant-loop-i : goal.invariant-loop-i

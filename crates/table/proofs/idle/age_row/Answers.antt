@@ -1,6 +1,5 @@
 -- A free row stays; a used row's idle word rises.
 use mathlib.Core.Path.{refl}
-use borrow.Author.Rules.{rules}
 use borrow.Author.Tests.{eq-eqb, ne_eqb}
 use Rattle.table.specs.Told.{age_words}
 use Rattle.table.proofs.idle.age_row.Goals as goal

@@ -2,7 +2,6 @@
 use mathlib.Core.Path.{sym, ap, ◌∙◌}
 use native.Mathlib.Omega.{arith}
 use lib.ListN.{length}
-use borrow.Author.Rules.{rules}
 use Rattle.rules.proofs.Lists.{strike_absent}
 use Rattle.table.proofs.Changed.{off_words, off_length, off_none, cut_listed}
 use Rattle.table.proofs.listing.list_off.Goals as goal

@@ -1,6 +1,5 @@
 -- One word is written, where the row is to be on the list.
 use mathlib.Core.Path.{refl}
-use borrow.Author.Rules.{rules}
 use Rattle.table.proofs.listing.list_on.Goals as goal
 
 pub returns-then-on : goal.returns-then-on

@@ -1,5 +1,4 @@
 -- The word of a place in the address run is the row's number.
-use borrow.Author.Rules.{rules}
 use Rattle.table.proofs.Told.{address_number}
 use Rattle.table.proofs.lookup.address_row.Goals as goal
 

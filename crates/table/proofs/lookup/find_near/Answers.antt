@@ -3,7 +3,6 @@ use Prim.Native.Nat.{ℕ}
 use mathlib.Core.Path.{sym, ap, ap₂, ◌∙◌}
 use native.Mathlib.Omega.{arith}
 use lib.ListN.{get_or}
-use borrow.Author.Rules.{rules}
 use Rattle.layout.specs.Picture.{row_number, addresses, cache_in}
 use Rattle.table.specs.declared.lookup.Found.TheVariants.{At}
 use Rattle.table.specs.Asked.{PlaceIn}

@@ -1,6 +1,5 @@
 -- The first word of the row at a place is the address there.
 use native.Mathlib.Omega.{arith}
-use borrow.Author.Rules.{rules}
 use Rattle.table.proofs.Told.{row_fits, read_key}
 use Rattle.table.proofs.lookup.key_at.Goals as goal
 

@@ -1,10 +1,7 @@
-use Prim.Native.Nat.{◌-◌}
 use mathlib.Core.Path.{sym, ◌∙◌}
 use native.Mathlib.Omega.{arith}
-use borrow.Author.Rules.{rules}
-use Rattle.layout.specs.Picture.{addresses, cache_in}
 use Rattle.layout.proofs.Numbers.{rising_addresses}
-use Rattle.table.proofs.Between.{Between, between_start, between_up, between_down, between_end, place_at}
+use Rattle.table.proofs.Between.{between_start, between_up, between_down, between_end, place_at}
 use Rattle.table.proofs.lookup.place_of.Goals as goal
 
 pub loop-low-init : goal.loop-low-init

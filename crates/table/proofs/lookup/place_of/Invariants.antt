@@ -1,11 +1,7 @@
 -- What is before low is below the address, and what is from high on is not; a place that has the address ends the search.
 use Prim.Native.Nat.{◌-◌}
-use mathlib.Core.Path.{sym, ◌∙◌}
-use native.Mathlib.Omega.{arith}
-use borrow.Author.Rules.{rules}
 use Rattle.layout.specs.Picture.{addresses, cache_in}
-use Rattle.layout.proofs.Numbers.{rising_addresses}
-use Rattle.table.proofs.Between.{Between, between_start, between_up, between_down, between_end, place_at}
+use Rattle.table.proofs.Between.{Between}
 use Rattle.table.proofs.lookup.place_of.Given as goal
 
 abbrev pub invariant-loop-low : goal.invariant-loop-low

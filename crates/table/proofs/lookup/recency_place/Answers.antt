@@ -1,10 +1,6 @@
-use Prim.Native.Nat.{ℕ, ◌≤◌, ◌<◌, ◌-◌, ◌+◌}
-use mathlib.Core.Path.{◌≡◌}
 use native.Mathlib.Omega.{arith}
-use lib.ListN.{get_or}
 use borrow.Author.Count.{below_more}
 use borrow.Author.Rules.{rules}
-use Rattle.layout.specs.Layout.{recency_at}
 use Rattle.table.proofs.Told.{place_hit, place_missed}
 use Rattle.table.proofs.lookup.recency_place.Goals as goal
 

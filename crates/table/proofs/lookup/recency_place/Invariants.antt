@@ -1,12 +1,8 @@
 -- No place before i has the row; the row is of a listed address, so some place has it.
 use Prim.Native.Nat.{ℕ, ◌≤◌, ◌<◌, ◌-◌, ◌+◌}
 use mathlib.Core.Path.{◌≡◌}
-use native.Mathlib.Omega.{arith}
 use lib.ListN.{get_or}
-use borrow.Author.Count.{below_more}
-use borrow.Author.Rules.{rules}
 use Rattle.layout.specs.Layout.{recency_at}
-use Rattle.table.proofs.Told.{place_hit, place_missed}
 use Rattle.table.proofs.lookup.recency_place.Given as goal
 
 abbrev pub invariant-loop-i : goal.invariant-loop-i

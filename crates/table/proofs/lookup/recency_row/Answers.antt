@@ -1,5 +1,4 @@
 -- The word of a place in the recency run is the row's number.
-use borrow.Author.Rules.{rules}
 use Rattle.table.proofs.Told.{recency_number}
 use Rattle.table.proofs.lookup.recency_row.Goals as goal
 

@@ -1,7 +1,6 @@
 -- The row at the place holds the entry, and the search finds its place among the addresses.
 use mathlib.Core.Option.{some}
 use mathlib.Core.Path.{sym, ap, ◌∙◌}
-use borrow.Author.Rules.{rules}
 use Rattle.rules.specs.declared.entry.Entry.{Entry}
 use Rattle.layout.specs.Picture.{row_number, cache_in}
 use Rattle.table.proofs.Told.{row_fits, read_get, read_address, place_key}

@@ -1,5 +1,4 @@
 -- The entry goes, and the order names it.
-use borrow.Author.Rules.{rules}
 use Rattle.table.proofs.Told.{told_size, told_address}
 use Rattle.table.proofs.orders.evict_at.Goals as goal
 

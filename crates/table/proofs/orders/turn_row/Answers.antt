@@ -1,7 +1,6 @@
 -- The row is cleaned, its number cut from the run's start and written after the last.
 use native.Mathlib.Omega.{arith}
 use lib.ListN.{length-set}
-use borrow.Author.Rules.{rules}
 use Rattle.table.proofs.Told.{row_fits}
 use Rattle.table.proofs.Turned.{turn_holds}
 use Rattle.table.proofs.orders.turn_row.Goals as goal

@@ -2,7 +2,6 @@
 use mathlib.Core.Option.{some}
 use mathlib.Core.Path.{sym, ap, ◌∙◌}
 use native.Mathlib.Omega.{arith}
-use borrow.Author.Rules.{rules}
 use Rattle.table.proofs.Told.{row_fits, read_get, told_size, told_address}
 use Rattle.table.proofs.orders.turn_tail.Goals as goal
 

@@ -1,6 +1,5 @@
 -- The row at the place holds the address.
 use native.Mathlib.Omega.{arith}
-use borrow.Author.Rules.{rules}
 use Rattle.table.proofs.Told.{row_fits, read_key}
 use Rattle.table.proofs.orders.write_at.Goals as goal
 

@@ -1,5 +1,4 @@
 -- The entry is clean in its row, and the order names it.
-use borrow.Author.Rules.{rules}
 use Rattle.table.proofs.orders.write_row.Goals as goal
 
 pub returns : goal.returns

@@ -1,6 +1,5 @@
 -- A row is free where fewer are used than there are.
 use mathlib.Core.Path.{sym}
-use borrow.Author.Rules.{rules}
 use Rattle.layout.proofs.Numbers.{free_is}
 use Rattle.table.proofs.runs.has_free.Goals as goal
 

@@ -1,5 +1,4 @@
 -- The recency run is as long as the list.
-use borrow.Author.Rules.{rules}
 use Rattle.table.proofs.Told.{recency_run_same, recency_length}
 use Rattle.table.proofs.runs.listed_len.Goals as goal
 

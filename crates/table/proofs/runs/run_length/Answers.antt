@@ -1,8 +1,6 @@
-use Prim.Native.Nat.{◌≤◌, ◌-◌, ◌+◌, ◌/◌}
+use Prim.Native.Nat.{◌-◌, ◌+◌, ◌/◌}
 use native.Mathlib.Omega.{arith}
-use lib.ListN.{length, drop}
-use borrow.Author.Rules.{rules}
-use Rattle.layout.specs.Picture.{run_of}
+use lib.ListN.{drop}
 use Rattle.table.proofs.Lengths.{at_ones, at_number, run_most}
 use Rattle.table.proofs.runs.run_length.Goals as goal
 

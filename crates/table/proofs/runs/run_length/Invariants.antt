@@ -1,10 +1,7 @@
 -- The length lies between low and high: a word is all ones exactly from the length on.
-use Prim.Native.Nat.{◌≤◌, ◌-◌, ◌+◌, ◌/◌}
-use native.Mathlib.Omega.{arith}
+use Prim.Native.Nat.{◌≤◌, ◌-◌}
 use lib.ListN.{length, drop}
-use borrow.Author.Rules.{rules}
 use Rattle.layout.specs.Picture.{run_of}
-use Rattle.table.proofs.Lengths.{at_ones, at_number, run_most}
 use Rattle.table.proofs.runs.run_length.Given as goal
 
 abbrev pub invariant-loop-low : goal.invariant-loop-low

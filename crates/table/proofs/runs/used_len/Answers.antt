@@ -1,5 +1,4 @@
 -- The address run is as long as there are entries.
-use borrow.Author.Rules.{rules}
 use Rattle.table.proofs.Told.{address_run, address_length}
 use Rattle.table.proofs.runs.used_len.Goals as goal
 

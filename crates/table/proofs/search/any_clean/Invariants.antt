@@ -1,15 +1,10 @@
 -- Whether the list from i on has a clean entry is whether the list has.
 use Prim.Native.Nat.{◌≤◌, ◌-◌}
-use mathlib.Core.Path.{◌≡◌, refl, sym, ◌∙◌}
-use native.Mathlib.Omega.{arith}
+use mathlib.Core.Path.{◌≡◌}
 use lib.ListN.{length, drop}
-use borrow.Author.Rules.{rules}
-use borrow.Author.Tests.{not-true, not-false}
 use Rattle.rules.specs.Addresses.{some_address}
 use Rattle.rules.specs.Rows.{clean_at}
 use Rattle.layout.specs.Picture.{cache_in}
-use Rattle.table.proofs.Passes.{some_end}
-use Rattle.table.proofs.Turns.{clean_stop, clean_on}
 use Rattle.table.proofs.search.any_clean.Given as goal
 
 abbrev pub invariant-loop-i : goal.invariant-loop-i

@@ -1,10 +1,7 @@
-use Prim.Native.Nat.{◌≤◌, ◌-◌}
-use mathlib.Core.Path.{◌≡◌, refl, sym, ◌∙◌}
+use mathlib.Core.Path.{refl, sym, ◌∙◌}
 use native.Mathlib.Omega.{arith}
-use lib.ListN.{drop}
 use borrow.Author.Rules.{rules}
 use Rattle.rules.specs.Entries.{is_held}
-use Rattle.rules.specs.Rows.{some_entry}
 use Rattle.layout.specs.Picture.{cache_in}
 use Rattle.table.proofs.Passes.{entry_end}
 use Rattle.table.proofs.Turns.{held_stop, held_on}

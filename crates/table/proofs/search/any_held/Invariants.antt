@@ -1,14 +1,10 @@
 -- Whether a row from i on is held is whether any is.
 use Prim.Native.Nat.{◌≤◌, ◌-◌}
-use mathlib.Core.Path.{◌≡◌, refl, sym, ◌∙◌}
-use native.Mathlib.Omega.{arith}
+use mathlib.Core.Path.{◌≡◌}
 use lib.ListN.{drop}
-use borrow.Author.Rules.{rules}
 use Rattle.rules.specs.Entries.{is_held}
 use Rattle.rules.specs.Rows.{some_entry}
 use Rattle.layout.specs.Picture.{cache_in}
-use Rattle.table.proofs.Passes.{entry_end}
-use Rattle.table.proofs.Turns.{held_stop, held_on}
 use Rattle.table.proofs.search.any_held.Given as goal
 
 abbrev pub invariant-loop-i : goal.invariant-loop-i

@@ -1,10 +1,6 @@
-use Prim.Native.Nat.{◌≤◌, ◌-◌, ◌+◌}
-use mathlib.Core.Path.{◌≡◌}
 use native.Mathlib.Omega.{arith}
-use lib.ListN.{drop}
 use borrow.Author.Rules.{rules}
 use Rattle.layout.specs.Picture.{cache_in}
-use Rattle.layout.specs.Places.{lowest_free}
 use Rattle.table.proofs.Passes.{lowest_end}
 use Rattle.table.proofs.Turns.{free_stop, free_on}
 use Rattle.table.proofs.search.free_row.Goals as goal

@@ -1,10 +1,6 @@
-use Prim.Native.Nat.{◌≤◌, ◌-◌, ◌+◌}
-use mathlib.Core.Path.{◌≡◌}
 use native.Mathlib.Nat.{le_refl}
 use native.Mathlib.Omega.{arith}
-use lib.ListN.{drop}
 use borrow.Author.Rules.{rules}
-use Rattle.rules.specs.Rows.{held_bytes}
 use Rattle.layout.specs.Picture.{cache_in}
 use Rattle.table.proofs.Passes.{total_end}
 use Rattle.table.proofs.Turns.{total_fits, held_turn}

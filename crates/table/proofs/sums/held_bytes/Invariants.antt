@@ -1,14 +1,9 @@
 -- What is summed and what is still to be summed are the whole.
 use Prim.Native.Nat.{◌≤◌, ◌-◌, ◌+◌}
 use mathlib.Core.Path.{◌≡◌}
-use native.Mathlib.Nat.{le_refl}
-use native.Mathlib.Omega.{arith}
 use lib.ListN.{drop}
-use borrow.Author.Rules.{rules}
 use Rattle.rules.specs.Rows.{held_bytes}
 use Rattle.layout.specs.Picture.{cache_in}
-use Rattle.table.proofs.Passes.{total_end}
-use Rattle.table.proofs.Turns.{total_fits, held_turn}
 use Rattle.table.proofs.sums.held_bytes.Given as goal
 
 abbrev pub invariant-loop-i : goal.invariant-loop-i

@@ -1,7 +1,6 @@
 -- Off the list, changed in its row, and on the list if it is listed now: the rules' touch.
 use mathlib.Core.Path.{sym, ap, ◌∙◌}
 use native.Mathlib.Omega.{arith}
-use borrow.Author.Rules.{rules}
 use Rattle.rules.specs.Entries.{is_listed}
 use Rattle.rules.specs.Rows.{passes}
 use Rattle.table.proofs.Changed.{shorter, touch_holds}
