@@ -3,6 +3,7 @@
 // A request is three words: kind, address and size, numbered as in include/speldervacht.h. Its answer is two: the number, and how many
 // orders it gave. Orders stand one request's after the other's. Take and configure, which need more, are not done in a batch.
 #![tactic(auto)]
+
 ghost use Rattle.std.specs.Prelude.{true, ◌≡◌, ◌≤◌, length, get_or};
 ghost use Rattle.cache.specs.Tables.{left};
 ghost use Rattle.judge.specs.Verdict.{judge_words};
