@@ -2,7 +2,7 @@
 use Prim.Native.Nat.{ℕ, ◌+◌, ◌-◌, ◌≤◌, ◌<◌}
 use mathlib.Core.Bool.{Bool, true, false, ◌&&◌}
 use mathlib.Core.List.{List, [], ◌++◌}
-use mathlib.Core.Path.{◌≡◌, refl, sym, ap, ap₂, subst, ◌∙◌}
+use mathlib.Core.Path.{◌≡◌, sym, ap, ap₂, ◌∙◌}
 use native.Mathlib.Omega.{arith}
 use lib.Dec.{leb, ltb}
 use lib.Ieee.{Float, lt, eq}
@@ -15,7 +15,7 @@ use Rattle.settings.specs.declared.Settings.{Settings}
 use Rattle.rules.proofs.Tests.{and_false}
 use Rattle.rules.specs.Cache.{Cache, Work, start, held, with_counters, restart}
 use Rattle.rules.specs.Entries.{if◌then◌else◌}
-use Rattle.rules.specs.Resizing.{lowered, lowered_in, increased_in, evict_aged, resized, aged, counts, counted}
+use Rattle.rules.specs.Resizing.{lowered, lowered_in, increased_in, evict_aged, aged, counts}
 use Rattle.reason_rules.proofs.Choices.{if_true, if_false}
 use Rattle.reason_rules.specs.declared.Bound.{Bound}
 use Rattle.reason_rules.specs.declared.Cause.{Cause}
@@ -25,7 +25,7 @@ use Rattle.reason_rules.specs.declared.Change.TheVariants as change
 use Rattle.reason_rules.specs.declared.Reason.{Reason}
 use Rattle.reason_rules.specs.declared.Reason.TheVariants as reason
 use Rattle.reason_rules.specs.Bounds.{rise_bound}
-use Rattle.reason_rules.specs.Reasons.{rate_of, room_reasons, epoch_reasons, ends_epoch, count_reasons, increase_raw, fall_change, age_out_change, decrease_change, resize_change, count_change}
+use Rattle.reason_rules.specs.Reasons.{room_reasons, epoch_reasons, ends_epoch, count_reasons, increase_raw, fall_change, age_out_change, decrease_change, resize_change, count_change}
 use Rattle.reasons.proofs.Changes.{change_if}
 use Rattle.reasons.specs.Changes.{change_of, fell_to}
 use Rattle.layout.proofs.Held.{holds_cache, onward}
@@ -34,7 +34,7 @@ use Rattle.layout.specs.Picture.{cache_in, rest_in}
 use Rattle.table.specs.Told.{aged as aged_rows}
 use Rattle.room.proofs.Reasons.{room_from}
 use Rattle.room.specs.Did.{Did}
-use Rattle.epoch.proofs.Laws.{lower_is, resized_in, aged_held, counted_held}
+use Rattle.epoch.proofs.Laws.{lower_is, resized_in, counted_held}
 use Rattle.epoch.specs.Counts.{increase_bound, epoch_change}
 
 -- ---- the maximum lowered

@@ -1,7 +1,7 @@
 -- What is known of a request that is not refused.
 use Prim.Native.Nat.{ℕ}
-use mathlib.Core.Bool.{true, false, not}
-use mathlib.Core.List.{List, []}
+use mathlib.Core.Bool.{true, false}
+use mathlib.Core.List.{[]}
 use mathlib.Core.Option.{none, some}
 use mathlib.Core.Path.{◌≡◌}
 use borrow.Author.Tests.{not-false, eqb-true}

@@ -1,8 +1,7 @@
 -- A report whose figures are each what the rules say is the rules' report.
 use Prim.Native.Nat.{ℕ}
-use mathlib.Core.Bool.{Bool, true, false}
 use mathlib.Core.List.{List}
-use mathlib.Core.Path.{◌≡◌, sym}
+use mathlib.Core.Path.{◌≡◌}
 use lib.Dec.{ltb}
 use lib.ListN.{length}
 use Rattle.fraction.specs.Fraction.{size_product}

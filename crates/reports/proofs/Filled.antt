@@ -15,7 +15,6 @@ use Rattle.rules.specs.declared.entry.Row.TheVariants.{Free, Used}
 use Rattle.rules.specs.Entries.{if◌then◌else◌}
 use Rattle.rules.specs.Limits.{most_idle, most_rows, most_size}
 use Rattle.rules.specs.Reports.{idle_count, idle_bytes, totals_from}
-use Rattle.rules.specs.Rows.{total}
 use Rattle.rules.proofs.Tests.{split, if_same}
 use Rattle.layout.specs.Layout.{row_at}
 use Rattle.layout.specs.Picture.{row_words, cache_in}

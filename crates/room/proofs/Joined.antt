@@ -9,7 +9,6 @@ use borrow.Author.Tests.{lt-ltb, le-ltb}
 use Rattle.rules.proofs.Moved.{Moved, moved}
 use Rattle.rules.proofs.Moves.{tail_turns, turns_move}
 use Rattle.rules.proofs.Tests.{choose, either, or_false, or_true}
-use Rattle.rules.specs.Entries.{if◌then◌else◌}
 use Rattle.rules.specs.Loops.{turn_in}
 use Rattle.reason_rules.specs.declared.Reason.{Reason}
 use Rattle.reason_rules.specs.Reasons.{first_pass, room_reasons}

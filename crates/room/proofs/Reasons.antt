@@ -1,7 +1,7 @@
 -- No reason and no change goes by the orders given before.
-use Prim.Native.Nat.{ℕ, ◌+◌, ◌-◌}
+use Prim.Native.Nat.{ℕ, ◌-◌}
 use mathlib.Core.Path.{◌≡◌, refl, sym, ap, ap₂, ◌∙◌}
-use mathlib.Core.Bool.{Bool, true, false}
+use mathlib.Core.Bool.{Bool, false}
 use mathlib.Core.List.{List, [], ◌++◌, append-nil}
 use native.Mathlib.Omega.{arith}
 use lib.Dec.{ltb}
@@ -16,7 +16,7 @@ use Rattle.rules.specs.declared.order.Order.{Order}
 use Rattle.rules.specs.Cache.{Work, start, held}
 use Rattle.rules.specs.Entries.{if◌then◌else◌}
 use Rattle.rules.specs.Loops.{turn_in}
-use Rattle.rules.specs.Resizing.{evict_aged, resized, aged, increased_in, counted}
+use Rattle.rules.specs.Resizing.{resized, aged, increased_in, counted}
 use Rattle.rules.specs.Room.{evict_by, noticed, make_room}
 use Rattle.reason_rules.specs.declared.Cause.TheVariants as cause
 use Rattle.reason_rules.specs.declared.Change.{Change}

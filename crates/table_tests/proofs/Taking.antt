@@ -1,7 +1,7 @@
 -- What take's tests tell, each where it is made.
 use Prim.Native.Nat.{ℕ, ◌-◌, ◌<◌, ◌≤◌}
 use mathlib.Core.Bool.{Bool, true, false, not, ◌||◌}
-use mathlib.Core.List.{List, [], ◌∷◌}
+use mathlib.Core.List.{List}
 use mathlib.Core.Path.{◌≡◌, refl, sym, ap, subst, ◌∙◌}
 use native.Mathlib.Omega.{arith}
 use lib.Dec.{eqb}
@@ -15,15 +15,15 @@ use Rattle.rules.specs.Cache.{Cache}
 use Rattle.rules.specs.Limits.{all_ones, most_rows}
 use Rattle.rules.specs.Messages as messages
 use Rattle.rules.specs.Messages.{Message, addresses_in, read_message}
-use Rattle.rules.specs.Refusals.{Test, tests, take_tests, not_next, bad_list, is_standby}
+use Rattle.rules.specs.Refusals.{tests, not_next, bad_list, is_standby}
 use Rattle.message.specs.Reads.{KeptOf, read_as}
 use Rattle.message.specs.declared.read.Read.{Read}
 use Rattle.message.specs.declared.read.Read.TheVariants as read
 use Rattle.taken_list.proofs.Marked.{long_bad}
-use Rattle.taken_list.specs.Listed.{Named, JudgedBad}
+use Rattle.taken_list.specs.Listed.{JudgedBad}
 use Rattle.verdicts.proofs.Telling.{done, stops, past}
 use Rattle.verdicts.specs.Tells.{Tells}
-use Rattle.table_tests.specs.Noted.{right_tests, Noted, TestedRight, TestedAs, Right}
+use Rattle.table_tests.specs.Noted.{right_tests, TestedRight, TestedAs, Right}
 use Rattle.table_tests.specs.declared.take.Tested.{Tested}
 
 refused_not : (r : Refusal) → verdict.Refused r ≡ verdict.Accepted → ⊥

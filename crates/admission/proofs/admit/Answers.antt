@@ -1,5 +1,4 @@
 -- The flash keeps the rows; the room that is made then is the rules'.
-use borrow.Author.Rules.{rules}
 use Rattle.layout.specs.Picture.{cache_in}
 use Rattle.admission.proofs.Admission.{flash_good, flash_fits, room_made_whole, room_reasons_told}
 use Rattle.admission.proofs.admit.Goals as goal

@@ -3,7 +3,6 @@ use mathlib.Core.Path.{refl, sym, ◌∙◌}
 use Rattle.layout.specs.Picture.{cache_in}
 use Rattle.table.proofs.Told.{found_at, found_no}
 use Rattle.verdicts.proofs.Telling.{done, on, past}
-use borrow.Author.Rules.{rules}
 use Rattle.admission_tests.proofs.hold_or_row.Goals as goal
 
 pub entry_of-e-requires : goal.entry_of-e-requires

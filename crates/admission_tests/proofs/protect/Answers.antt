@@ -1,7 +1,6 @@
 -- The tests are the rules', in their order.
 use Rattle.rules.specs.Refusals.{tests}
 use Rattle.verdicts.proofs.Telling.{on}
-use borrow.Author.Rules.{rules}
 use Rattle.admission_tests.proofs.protect.Goals as goal
 
 pub returns : goal.returns

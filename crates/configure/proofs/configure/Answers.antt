@@ -9,7 +9,6 @@ use Rattle.layout.proofs.Held.{holds_cache, holds_rest}
 use Rattle.table.proofs.Told.{good_rows}
 use Rattle.configure.proofs.Configured.{configured_fits, configured_reasons}
 use Rattle.refusals.proofs.Unrefused.{configurable}
-use borrow.Author.Rules.{rules}
 use Rattle.configure.proofs.configure.Goals as goal
 
 pub set_all-change-requires : goal.set_all-change-requires

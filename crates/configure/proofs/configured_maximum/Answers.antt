@@ -1,5 +1,4 @@
 -- The initial size, or the maximum brought into the range from below and from above.
-use borrow.Author.Rules.{rules}
 use Rattle.configure.proofs.Configured.{brought_by}
 use Rattle.configure.proofs.configured_maximum.Goals as goal
 

@@ -1,5 +1,4 @@
 -- The maximum that is set is the rules', so it is in the range of the settings; then the counters restart.
-use borrow.Author.Rules.{rules}
 use Rattle.layout.proofs.Held.{holds_good}
 use Rattle.layout.specs.Picture.{cache_in}
 use Rattle.configure.proofs.Configured.{settable, configured_held, change_told}

@@ -4,7 +4,6 @@ use Rattle.rules.specs.Requests.{effect}
 use Rattle.layout.specs.Picture.{cache_in}
 use Rattle.table.proofs.Told.{found_at, found_no, place_key}
 use Rattle.discard.proofs.Discarded.{nothing_goes, stands_listed}
-use borrow.Author.Rules.{rules}
 use Rattle.discard.proofs.discard.Goals as goal
 
 pub returns-in_default : goal.returns-in_default

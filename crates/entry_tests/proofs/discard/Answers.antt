@@ -3,7 +3,6 @@ use mathlib.Core.Path.{ap}
 use Rattle.rules.specs.Refusals.{tests}
 use Rattle.conditions.specs.declared.seen.Seen.{Seen}
 use Rattle.verdicts.proofs.Telling.{done, on}
-use borrow.Author.Rules.{rules}
 use Rattle.entry_tests.proofs.discard.Goals as goal
 
 pub returns : goal.returns

@@ -4,7 +4,6 @@ use mathlib.Core.Path.{ap}
 use Rattle.rules.specs.Refusals.{tests}
 use Rattle.conditions.specs.declared.seen.Seen.{Seen}
 use Rattle.verdicts.proofs.Telling.{done, on}
-use borrow.Author.Rules.{rules}
 use Rattle.entry_tests.proofs.pin.Goals as goal
 
 pub returns : goal.returns

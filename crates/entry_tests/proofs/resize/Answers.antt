@@ -7,7 +7,6 @@ use Rattle.layout.specs.Picture.{cache_in}
 use Rattle.conditions.proofs.Joined.{unpinned_unwritten}
 use Rattle.conditions.specs.declared.seen.Seen.{Seen}
 use Rattle.verdicts.proofs.Telling.{done, on}
-use borrow.Author.Rules.{rules}
 use Rattle.entry_tests.proofs.resize.Goals as goal
 
 pub returns : goal.returns

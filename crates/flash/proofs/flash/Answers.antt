@@ -1,7 +1,5 @@
 -- A size that is not large leaves the maximum; else the number that the flash gives is within the settings, and the raise to it is the flash.
 use mathlib.Core.Path.{sym, ◌∙◌}
-use borrow.Author.Tests.{not-true}
-use borrow.Author.Rules.{rules}
 use Rattle.layout.specs.Picture.{cache_in}
 use Rattle.flash.proofs.Laws.{flash_not, flash_same, flash_named, flash_most, flash_raised}
 use Rattle.flash.proofs.flash.Goals as goal

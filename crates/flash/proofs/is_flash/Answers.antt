@@ -1,5 +1,4 @@
 -- By the cases of the rule.
-use borrow.Author.Rules.{rules}
 use Rattle.flash.proofs.is_flash.Goals as goal
 
 pub returns-in-On : goal.returns-in-On

@@ -1,6 +1,5 @@
 -- Above the maximum both words are written, one after the other; else the table stays.
 use native.Mathlib.Omega.{arith}
-use borrow.Author.Rules.{rules}
 use borrow.Author.Tests.{lt-ltb, le-ltb}
 use Rattle.layout.proofs.Held.{holds_good}
 use Rattle.layout.specs.Picture.{cache_in}

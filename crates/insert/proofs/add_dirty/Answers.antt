@@ -1,6 +1,5 @@
 -- The entry is within its limits, so it may come; the count read after it is the one before.
 use native.Mathlib.Omega.{arith}
-use borrow.Author.Rules.{rules}
 use Rattle.layout.proofs.Held.{holds_good}
 use Rattle.layout.specs.Picture.{cache_in}
 use Rattle.rules.proofs.Effects.{size_most}

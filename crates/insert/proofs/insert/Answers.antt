@@ -11,7 +11,6 @@ use Rattle.insert.specs.Inserted.{inserted_in}
 use Rattle.refusals.proofs.Unrefused.{insertable}
 use lib.ListN.{length}
 use native.Mathlib.Omega.{arith}
-use borrow.Author.Rules.{rules}
 use Rattle.insert.proofs.insert.Goals as goal
 
 pub admit-admitted-requires : goal.admit-admitted-requires

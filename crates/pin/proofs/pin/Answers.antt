@@ -6,7 +6,6 @@ use Rattle.layout.specs.Picture.{cache_in}
 use Rattle.table.proofs.Amended.{asks_set, told_set}
 use Rattle.pin.proofs.Pinned.{pin_keeps, held_listed}
 use Rattle.refusals.proofs.Unrefused.{pinnable}
-use borrow.Author.Rules.{rules}
 use Rattle.pin.proofs.pin.Goals as goal
 
 pub set_entry-requires : goal.set_entry-requires

@@ -4,7 +4,6 @@ use Rattle.rules.specs.Entries.{with_pin}
 use Rattle.rules.specs.Requests.{effect}
 use Rattle.table.proofs.Amended.{asks_touch, told_touch}
 use Rattle.pin.proofs.Pinned.{pin_keeps}
-use borrow.Author.Rules.{rules}
 use Rattle.pin.proofs.unpin.Goals as goal
 
 pub touch_entry-requires : goal.touch_entry-requires

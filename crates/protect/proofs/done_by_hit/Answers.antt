@@ -3,7 +3,6 @@ use mathlib.Core.Path.{refl, ap}
 use mathlib.Core.List.{List, ◌++◌}
 use Rattle.reason_rules.specs.declared.Reason.{Reason}
 use Rattle.epoch.specs.Counts.{aged_runs}
-use borrow.Author.Rules.{rules}
 use Rattle.protect.proofs.done_by_hit.Goals as goal
 
 pub returns : goal.returns

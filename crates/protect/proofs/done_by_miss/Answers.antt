@@ -1,6 +1,5 @@
 -- One load stands between the room and what the access gives.
 use mathlib.Core.Path.{refl}
-use borrow.Author.Rules.{rules}
 use Rattle.protect.proofs.done_by_miss.Goals as goal
 
 pub returns : goal.returns

@@ -5,7 +5,6 @@ use Rattle.table.proofs.Amended.{asks_touch, told_touch}
 use Rattle.protect.proofs.Protected.{protect_keeps, hit_asks, hit_did, hit_named}
 use mathlib.Core.Path.{◌∙◌}
 use Rattle.room.proofs.Orders.{did_number}
-use borrow.Author.Rules.{rules}
 use Rattle.protect.proofs.hit_row.Goals as goal
 
 pub protected_for-requires : goal.protected_for-requires

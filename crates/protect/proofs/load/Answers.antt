@@ -1,5 +1,4 @@
 -- The order is put, and the new entry, clean and held, comes into a free row; no list has it.
-use borrow.Author.Rules.{rules}
 use Rattle.layout.specs.Picture.{cache_in}
 use Rattle.protect.proofs.Loaded.{load_adds, load_did}
 use Rattle.protect.proofs.load.Goals as goal

@@ -5,7 +5,6 @@ use Rattle.layout.specs.Picture.{cache_in}
 use Rattle.rules.proofs.Effects.{size_most}
 use Rattle.room.proofs.Orders.{did_number, words_fit}
 use Rattle.protect.proofs.Missed.{load_asks, missed_asks, missed_did, missed_reasons, missed_changes}
-use borrow.Author.Rules.{rules}
 use Rattle.protect.proofs.miss.Goals as goal
 
 pub admit-admitted-requires : goal.admit-admitted-requires

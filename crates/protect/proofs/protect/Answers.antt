@@ -8,7 +8,6 @@ use Rattle.layout.specs.Picture.{cache_in}
 use Rattle.table.proofs.Told.{found_at, found_no}
 use Rattle.refusals.proofs.Unrefused.{protectable}
 use Rattle.protect.proofs.Protected.{explains_hit, explains_miss}
-use borrow.Author.Rules.{rules}
 use Rattle.protect.proofs.protect.Goals as goal
 
 pub miss-requires : goal.miss-requires

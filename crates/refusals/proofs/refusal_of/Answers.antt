@@ -3,7 +3,6 @@ use mathlib.Core.Path.{ap, ◌∙◌}
 use Rattle.layout.specs.Picture.{cache_in}
 use Rattle.refusals.specs.Named.{found_for}
 use Rattle.verdicts.proofs.Telling.{matched}
-use borrow.Author.Rules.{rules}
 use Rattle.refusals.proofs.refusal_of.Goals as goal
 
 pub insert-requires : goal.insert-requires

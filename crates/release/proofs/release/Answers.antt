@@ -7,7 +7,6 @@ use Rattle.reason_rules.specs.Reasons.{reasons_of, changes_of}
 use Rattle.layout.specs.Picture.{cache_in}
 use Rattle.release.proofs.Released.{unchanged, touch_asked, room_asked, held_stays, room_told}
 use Rattle.refusals.proofs.Unrefused.{releasable}
-use borrow.Author.Rules.{rules}
 use Rattle.release.proofs.release.Goals as goal
 
 pub touch_entry-requires : goal.touch_entry-requires

@@ -10,7 +10,6 @@ use Rattle.resize.proofs.Resized.{own_get, own_change}
 use Rattle.release.proofs.Released.{changed, changed_released, named_here, touch_asked, room_asked, room_told}
 use Rattle.refusals.proofs.Unrefused.{changeable}
 use native.Mathlib.Omega.{arith}
-use borrow.Author.Rules.{rules}
 use Rattle.release.proofs.release_changed.Goals as goal
 
 pub name_size-change-requires : goal.name_size-change-requires

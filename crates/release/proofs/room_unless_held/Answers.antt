@@ -1,6 +1,5 @@
 -- The test is the rules'; else the room is made.
 use mathlib.Core.Path.{sym, ◌∙◌}
-use borrow.Author.Rules.{rules}
 use Rattle.layout.specs.Picture.{cache_in}
 use Rattle.release.proofs.Released.{room_held, room_made_whole, reasons_held, reasons_made}
 use Rattle.release.proofs.room_unless_held.Goals as goal

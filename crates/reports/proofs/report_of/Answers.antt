@@ -1,7 +1,6 @@
 -- Each figure is what the function for it gives.
 use Rattle.reports.proofs.Figures.{report_told}
 use Rattle.layout.specs.Picture.{cache_in}
-use borrow.Author.Rules.{rules}
 use Rattle.reports.proofs.report_of.Goals as goal
 
 pub returns : goal.returns

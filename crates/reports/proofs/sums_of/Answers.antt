@@ -1,14 +1,10 @@
-use Prim.Native.Nat.{◌-◌, ◌+◌}
-use mathlib.Core.Path.{◌≡◌}
 use native.Mathlib.Nat.{le_refl}
 use native.Mathlib.Omega.{arith}
-use lib.ListN.{drop}
 use borrow.Author.Rules.{rules}
-use Rattle.rules.specs.Rows.{held_bytes, total}
 use Rattle.layout.specs.Picture.{cache_in}
 use Rattle.table.proofs.Passes.{dirty_size, dirty_small, total_end}
 use Rattle.table.proofs.Turns.{total_fits, held_turn, dirty_turn_taken}
-use Rattle.reports.proofs.Filled.{Filled, filled_start, idle_in, total_small, filled_on, filled_end}
+use Rattle.reports.proofs.Filled.{filled_start, idle_in, total_small, filled_on, filled_end}
 use Rattle.reports.proofs.sums_of.Goals as goal
 
 pub loop-i-init : goal.loop-i-init

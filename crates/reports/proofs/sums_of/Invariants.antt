@@ -1,15 +1,11 @@
 -- Each sum, with what the rows still to be passed have, is the whole.
 use Prim.Native.Nat.{◌-◌, ◌+◌}
 use mathlib.Core.Path.{◌≡◌}
-use native.Mathlib.Nat.{le_refl}
-use native.Mathlib.Omega.{arith}
 use lib.ListN.{drop}
-use borrow.Author.Rules.{rules}
 use Rattle.rules.specs.Rows.{held_bytes, total}
 use Rattle.layout.specs.Picture.{cache_in}
-use Rattle.table.proofs.Passes.{dirty_size, dirty_small, total_end}
-use Rattle.table.proofs.Turns.{total_fits, held_turn, dirty_turn_taken}
-use Rattle.reports.proofs.Filled.{Filled, filled_start, idle_in, total_small, filled_on, filled_end}
+use Rattle.table.proofs.Passes.{dirty_size}
+use Rattle.reports.proofs.Filled.{Filled}
 use Rattle.reports.proofs.sums_of.Given as goal
 
 abbrev pub invariant-loop-i : goal.invariant-loop-i

@@ -1,6 +1,5 @@
 -- The flash keeps the byte count, so the count read after it is the one before; a dirty entry's size is not added again.
 use native.Mathlib.Omega.{arith}
-use borrow.Author.Rules.{rules}
 use Rattle.layout.proofs.Held.{holds_good}
 use Rattle.layout.specs.Picture.{cache_in}
 use Rattle.rules.proofs.Effects.{size_most}

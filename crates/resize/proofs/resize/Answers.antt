@@ -5,7 +5,6 @@ use Rattle.layout.specs.Picture.{cache_in}
 use Rattle.table.proofs.Told.{told_address}
 use Rattle.resize.proofs.Resized.{own_get, own_change, named_asks, named_told}
 use Rattle.refusals.proofs.Unrefused.{resizable}
-use borrow.Author.Rules.{rules}
 use Rattle.resize.proofs.resize.Goals as goal
 
 pub name_size-change-requires : goal.name_size-change-requires

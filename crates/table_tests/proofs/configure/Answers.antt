@@ -2,7 +2,6 @@
 use mathlib.Core.Path.{refl}
 use Rattle.rules.specs.Refusals.{tests}
 use Rattle.verdicts.proofs.Telling.{done, on}
-use borrow.Author.Rules.{rules}
 use Rattle.table_tests.proofs.configure.Goals as goal
 
 pub returns : goal.returns

@@ -1,8 +1,6 @@
 -- The tests are the rules', in their order.
 use Rattle.verdicts.proofs.Telling.{done, on}
 use Rattle.rules.specs.Refusals.{tests}
-use native.Mathlib.Omega.{arith}
-use borrow.Author.Rules.{rules}
 use Rattle.table_tests.proofs.flush.Goals as goal
 
 pub returns : goal.returns

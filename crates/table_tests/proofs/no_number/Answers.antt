@@ -1,7 +1,5 @@
 -- The mode, and the number in the table.
 use mathlib.Core.Path.{refl}
-use native.Mathlib.Omega.{arith}
-use borrow.Author.Rules.{rules}
 use Rattle.table_tests.proofs.no_number.Goals as goal
 
 pub returns : goal.returns

@@ -5,8 +5,6 @@ use lib.Dec.{eqb}
 use mathlib.Core.Path.{ap}
 use mathlib.Core.Bool.{not}
 use Prim.Native.Nat.{ℕ}
-use native.Mathlib.Omega.{arith}
-use borrow.Author.Rules.{rules}
 use Rattle.table_tests.proofs.sync.Goals as goal
 
 pub returns : goal.returns

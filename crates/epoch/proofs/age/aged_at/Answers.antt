@@ -1,7 +1,6 @@
 -- The words of a listed row are those of its entry.
 use mathlib.Core.Option.{some}
 use mathlib.Core.Path.{ap, sym, ◌∙◌}
-use borrow.Author.Rules.{rules}
 use Rattle.table.proofs.Told.{row_fits, read_get}
 use Rattle.epoch.proofs.Aging.{told_aged}
 use Rattle.epoch.proofs.age.aged_at.Goals as goal

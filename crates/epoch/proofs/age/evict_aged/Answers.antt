@@ -1,6 +1,5 @@
 -- Alone writes, and the other modes do not.
 use mathlib.Core.Path.{ap, ◌∙◌}
-use borrow.Author.Rules.{rules}
 use Rattle.rules.specs.Refusals.{is_alone}
 use Rattle.epoch.proofs.age.evict_aged.Goals as goal
 

@@ -1,13 +1,8 @@
-use Prim.Native.Nat.{◌+◌, ◌-◌}
-use mathlib.Core.Path.{◌≡◌, refl}
-use lib.ListN.{length}
-use Rattle.rules.proofs.Moved.{left}
+use mathlib.Core.Path.{refl}
 use Rattle.layout.proofs.Held.{holds_cache}
-use Rattle.layout.specs.Picture.{cache_in, rest_in}
 use Rattle.room.proofs.Kept.{gave, kept_good, is_so, is_not}
-use Rattle.epoch.proofs.Aging.{Aging, aging_start, within, evicts_one, writes_one, aging_young, aging_dirty, aging_evict, aging_write, aging_end, aging_in}
+use Rattle.epoch.proofs.Aging.{aging_start, within, evicts_one, writes_one, aging_young, aging_dirty, aging_evict, aging_write, aging_end, aging_in}
 use native.Mathlib.Omega.{arith}
-use borrow.Author.Rules.{rules}
 use mathlib.Core.Path.{ap}
 use mathlib.Core.Bool.{not}
 use Rattle.epoch.proofs.age.expel.Goals as goal

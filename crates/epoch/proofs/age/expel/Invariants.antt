@@ -1,17 +1,11 @@
 -- What the rule does from the place reached is what it does from the start: a written entry keeps its place, and the next turn evicts it.
 -- The measure is the orders that can still come and the places left.
 use Prim.Native.Nat.{◌+◌, ◌-◌}
-use mathlib.Core.Path.{◌≡◌, refl}
+use mathlib.Core.Path.{◌≡◌}
 use lib.ListN.{length}
 use Rattle.rules.proofs.Moved.{left}
-use Rattle.layout.proofs.Held.{holds_cache}
 use Rattle.layout.specs.Picture.{cache_in, rest_in}
-use Rattle.room.proofs.Kept.{gave, kept_good, is_so, is_not}
-use Rattle.epoch.proofs.Aging.{Aging, aging_start, within, evicts_one, writes_one, aging_young, aging_dirty, aging_evict, aging_write, aging_end, aging_in}
-use native.Mathlib.Omega.{arith}
-use borrow.Author.Rules.{rules}
-use mathlib.Core.Path.{ap}
-use mathlib.Core.Bool.{not}
+use Rattle.epoch.proofs.Aging.{Aging}
 use Rattle.epoch.proofs.age.expel.Given as goal
 
 abbrev pub invariant-loop-pos : goal.invariant-loop-pos

@@ -6,7 +6,6 @@ use Rattle.epoch.proofs.Laws.{rate_is, resized_good, aged_good, aged_fits, epoch
 use mathlib.Core.Path.{◌∙◌}
 use Rattle.room.proofs.Orders.{did_number}
 use Rattle.epoch.proofs.Named.{rate_named, epoch_named}
-use borrow.Author.Rules.{rules}
 use Rattle.epoch.proofs.count.end_epoch.Goals as goal
 
 pub age_all-requires : goal.age_all-requires

@@ -1,6 +1,5 @@
 -- What aged out are the orders between the two numbers.
 use mathlib.Core.Path.{refl}
-use borrow.Author.Rules.{rules}
 use Rattle.epoch.proofs.count.ended.Goals as goal
 
 pub returns : goal.returns

@@ -1,6 +1,5 @@
 -- No order is given.
 use mathlib.Core.Path.{refl}
-use borrow.Author.Rules.{rules}
 use Rattle.epoch.proofs.count.no_end.Goals as goal
 
 pub returns : goal.returns

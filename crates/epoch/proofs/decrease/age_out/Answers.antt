@@ -2,7 +2,6 @@
 use lib.Ieee.{of_bits, round}
 use Rattle.epoch.proofs.Laws.{out_good, out_whole, out_lower}
 use Rattle.epoch.proofs.Named.{out_same, out_named}
-use borrow.Author.Rules.{rules}
 use Rattle.epoch.proofs.decrease.age_out.Goals as goal
 
 pub returns-then-reserve : goal.returns-then-reserve

@@ -4,7 +4,6 @@ use Rattle.rules.specs.Cache.{start}
 use Rattle.room.proofs.Orders.{did_number}
 use Rattle.epoch.proofs.Laws.{decrease_off, decrease_scaled, decrease_stays, decrease_ages, decrease_ages_above, decrease_ages_not}
 use Rattle.epoch.proofs.Named.{off_named, threshold_named, threshold_same, ages_named, above_named, above_same}
-use borrow.Author.Rules.{rules}
 use Rattle.epoch.proofs.decrease.decrease.Goals as goal
 
 pub returns-then-upper-rate : goal.returns-then-upper-rate

@@ -3,7 +3,6 @@ use Rattle.layout.specs.Picture.{cache_in}
 use Rattle.epoch.proofs.Laws.{increased_is}
 use mathlib.Core.Path.{◌∙◌}
 use Rattle.epoch.proofs.Named.{bound_is}
-use borrow.Author.Rules.{rules}
 use Rattle.epoch.proofs.decrease.increased_maximum.Goals as goal
 
 pub returns : goal.returns

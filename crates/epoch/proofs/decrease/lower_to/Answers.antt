@@ -3,7 +3,6 @@ use Rattle.layout.specs.Picture.{cache_in}
 use Rattle.epoch.proofs.Laws.{lower_least, lower_most, lower_held}
 use mathlib.Core.Path.{◌∙◌}
 use Rattle.epoch.proofs.Named.{fell_named}
-use borrow.Author.Rules.{rules}
 use Rattle.epoch.proofs.decrease.lower_to.Goals as goal
 
 pub set_maximum-requires : goal.set_maximum-requires

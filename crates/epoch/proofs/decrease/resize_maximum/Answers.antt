@@ -3,7 +3,6 @@ use native.Mathlib.Omega.{arith}
 use Rattle.layout.specs.Picture.{cache_in}
 use Rattle.epoch.proofs.Laws.{increased_most, resized_up, resized_not}
 use Rattle.epoch.proofs.Named.{rise_named, rest_named}
-use borrow.Author.Rules.{rules}
 use Rattle.epoch.proofs.decrease.resize_maximum.Goals as goal
 
 pub set_maximum-requires : goal.set_maximum-requires

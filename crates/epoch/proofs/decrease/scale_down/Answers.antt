@@ -2,7 +2,6 @@
 use Rattle.layout.specs.Picture.{cache_in}
 use Rattle.epoch.proofs.Laws.{scaled}
 use Rattle.epoch.proofs.Named.{scaled_named}
-use borrow.Author.Rules.{rules}
 use Rattle.epoch.proofs.decrease.scale_down.Goals as goal
 
 pub returns : goal.returns

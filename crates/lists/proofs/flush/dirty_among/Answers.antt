@@ -1,5 +1,4 @@
 -- The row at the place holds the address, so the entry read there is the address's.
-use borrow.Author.Rules.{rules}
 use Rattle.table.proofs.Told.{told_dirty}
 use Rattle.lists.proofs.flush.dirty_among.Goals as goal
 

@@ -12,7 +12,6 @@ use lib.ListN.{length}
 use mathlib.Core.Path.{refl}
 use Prim.Native.Nat.{◌+◌, ◌*◌}
 use native.Mathlib.Omega.{arith}
-use borrow.Author.Rules.{rules}
 use Rattle.lists.proofs.flush.flush.Goals as goal
 
 pub write_all-given-requires : goal.write_all-given-requires

@@ -1,11 +1,7 @@
-use Prim.Native.Nat.{◌-◌}
-use mathlib.Core.Logic.{⊎_elim}
-use mathlib.Core.Path.{ap, ◌∙◌, ◌≡◌, refl}
+use mathlib.Core.Path.{ap, ◌∙◌, refl}
 use native.Mathlib.Omega.{arith}
 use lib.ListN.{length}
-use borrow.Author.Rules.{rules}
-use Rattle.layout.specs.Picture.{addresses, cache_in, rest_in}
-use Rattle.lists.proofs.Flushing.{Flushing, flushing_start, flushing_rows, flushing_same, flushing_on, flushing_past, flushing_end}
+use Rattle.lists.proofs.Flushing.{flushing_start, flushing_rows, flushing_same, flushing_on, flushing_past, flushing_end}
 use Rattle.lists.proofs.flush.write_all.Goals.{then-dirty_among, else-dirty_among}
 use Rattle.lists.proofs.flush.write_all.Goals as goal
 

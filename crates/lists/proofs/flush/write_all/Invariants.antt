@@ -1,12 +1,9 @@
 -- After the places passed, those dirty among them are written; the addresses stay as entries become clean.
 use Prim.Native.Nat.{◌-◌}
-use mathlib.Core.Logic.{⊎_elim}
-use mathlib.Core.Path.{ap, ◌∙◌, ◌≡◌, refl}
-use native.Mathlib.Omega.{arith}
+use mathlib.Core.Path.{◌≡◌}
 use lib.ListN.{length}
-use borrow.Author.Rules.{rules}
 use Rattle.layout.specs.Picture.{addresses, cache_in, rest_in}
-use Rattle.lists.proofs.Flushing.{Flushing, flushing_start, flushing_rows, flushing_same, flushing_on, flushing_past, flushing_end}
+use Rattle.lists.proofs.Flushing.{Flushing}
 use Rattle.lists.proofs.flush.write_all.Given as goal
 
 abbrev pub invariant-loop-place : goal.invariant-loop-place

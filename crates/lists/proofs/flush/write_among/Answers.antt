@@ -1,5 +1,4 @@
 -- The row at the place holds the address.
-use borrow.Author.Rules.{rules}
 use Rattle.lists.proofs.flush.write_among.Goals as goal
 
 pub write_row-requires : goal.write_row-requires

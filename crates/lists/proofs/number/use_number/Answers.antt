@@ -3,8 +3,6 @@ use Rattle.lists.proofs.Numbering.{numbered_lead, numbered_not}
 use Rattle.layout.specs.Picture.{cache_in}
 use Rattle.rules.specs.Messages.{next_after}
 use mathlib.Core.Path.{ap, ◌∙◌}
-use native.Mathlib.Omega.{arith}
-use borrow.Author.Rules.{rules}
 use Rattle.lists.proofs.number.use_number.Goals as goal
 
 pub returns-then-is_lead : goal.returns-then-is_lead

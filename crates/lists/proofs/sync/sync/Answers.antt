@@ -10,7 +10,6 @@ use Rattle.rules.specs.Cache.{with_count}
 use lib.ListN.{length}
 use mathlib.Core.Path.{refl}
 use native.Mathlib.Omega.{arith}
-use borrow.Author.Rules.{rules}
 use Rattle.lists.proofs.sync.sync.Goals as goal
 
 pub write_dirty-given-requires : goal.write_dirty-given-requires

@@ -1,9 +1,5 @@
-use Prim.Native.Nat.{◌-◌}
-use mathlib.Core.Path.{◌≡◌, refl}
-use lib.ListN.{length}
-use Rattle.rules.specs.Messages.{read_message, addresses_in}
-use Rattle.layout.specs.Picture.{cache_in, rest_in}
-use Rattle.lists.proofs.Cleaning.{Cleaning, cleaning_start, cleaning_end, noted_place, noted_low, noted_rows, noted_address, noted_on}
+use mathlib.Core.Path.{refl}
+use Rattle.lists.proofs.Cleaning.{cleaning_start, cleaning_end, noted_place, noted_low, noted_rows, noted_address, noted_on}
 use native.Mathlib.Omega.{arith}
 use borrow.Author.Rules.{rules}
 use Rattle.lists.proofs.take.clean_each.Goals as goal

@@ -1,12 +1,10 @@
 -- After i addresses their entries are clean.
 use Prim.Native.Nat.{◌-◌}
-use mathlib.Core.Path.{◌≡◌, refl}
+use mathlib.Core.Path.{◌≡◌}
 use lib.ListN.{length}
 use Rattle.rules.specs.Messages.{read_message, addresses_in}
 use Rattle.layout.specs.Picture.{cache_in, rest_in}
-use Rattle.lists.proofs.Cleaning.{Cleaning, cleaning_start, cleaning_end, noted_place, noted_low, noted_rows, noted_address, noted_on}
-use native.Mathlib.Omega.{arith}
-use borrow.Author.Rules.{rules}
+use Rattle.lists.proofs.Cleaning.{Cleaning}
 use Rattle.lists.proofs.take.clean_each.Given as goal
 
 abbrev pub invariant-loop-i : goal.invariant-loop-i

@@ -1,7 +1,5 @@
 -- The first word of a row is its entry's address.
 use Rattle.table.proofs.Told.{read_key}
-use native.Mathlib.Omega.{arith}
-use borrow.Author.Rules.{rules}
 use Rattle.lists.proofs.take.row_address.Goals as goal
 
 pub returns : goal.returns

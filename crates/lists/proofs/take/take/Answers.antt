@@ -10,8 +10,6 @@ use Rattle.rules.specs.Hosts.{asking}
 use lib.ListN.{length, length-replicate}
 use mathlib.Core.Path.{refl, sym, ◌∙◌}
 use Prim.Native.Nat.{ℕ}
-use native.Mathlib.Omega.{arith}
-use borrow.Author.Rules.{rules}
 use Rattle.lists.proofs.take.take.Goals as goal
 
 pub take_noting-tested-requires : goal.take_noting-tested-requires

@@ -4,7 +4,6 @@ use Rattle.layout.proofs.Held.{holds_good, holds_cache, onward}
 use Rattle.rules.specs.Cache.{Cache, with_count, with_next}
 use mathlib.Core.Path.{ap, ◌∙◌}
 use native.Mathlib.Omega.{arith}
-use borrow.Author.Rules.{rules}
 use Rattle.lists.proofs.take.take_list.Goals as goal
 
 pub set_count-requires : goal.set_count-requires

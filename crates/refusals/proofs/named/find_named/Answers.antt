@@ -1,5 +1,4 @@
 -- By the request's case.
-use borrow.Author.Rules.{rules}
 use Rattle.refusals.proofs.named.find_named.Goals as goal
 
 pub returns-in-Insert : goal.returns-in-Insert

@@ -1,5 +1,4 @@
 -- By the case of what was found.
-use borrow.Author.Rules.{rules}
 use Rattle.refusals.proofs.named.row_in.Goals as goal
 
 pub returns-in-At : goal.returns-in-At

@@ -1,5 +1,4 @@
 -- What is known is what would be summed.
-use borrow.Author.Rules.{rules}
 use Rattle.room.proofs.held.held_now.Goals as goal
 
 pub returns-in-Known : goal.returns-in-Known

@@ -1,17 +1,9 @@
-use Prim.Native.Nat.{◌+◌, ◌-◌}
-use mathlib.Core.Bool.{true}
-use mathlib.Core.Path.{◌≡◌, refl}
-use lib.ListN.{length}
-use Rattle.rules.proofs.Moved.{left}
-use Rattle.rules.specs.Room.{lacking}
+use mathlib.Core.Path.{refl}
 use Rattle.layout.proofs.Held.{holds_cache}
-use Rattle.layout.specs.Picture.{cache_in, rest_in}
-use Rattle.table.specs.Told.{dropped, turned, listed_at}
 use Rattle.clean_share.proofs.Finding.{held_fits}
 use Rattle.room.proofs.Kept.{gave, kept_good, is_so, is_not, still_lacking, no_longer_lacking}
-use Rattle.room.proofs.Making.{Making, making_start, within, size_held, evicts_one, turns_one, making_skip, making_turn, making_evict, making_enough, making_nothing, making_in}
+use Rattle.room.proofs.Making.{making_start, within, size_held, evicts_one, turns_one, making_skip, making_turn, making_evict, making_enough, making_nothing, making_in}
 use native.Mathlib.Omega.{arith}
-use borrow.Author.Rules.{rules}
 use mathlib.Core.Path.{ap}
 use mathlib.Core.Bool.{not}
 use Rattle.room.proofs.pass.evict_until.Goals as goal

@@ -13,7 +13,6 @@ use Rattle.layout.specs.Picture.{cache_in}
 use Rattle.room.proofs.Joined.{room_off, room_on, noted_good, noted_fits, noted_held, noted_joins, reasons_off, reasons_on}
 use Rattle.room.proofs.Orders.{did_number}
 use Rattle.room.specs.First.{evict_in}
-use borrow.Author.Rules.{rules}
 use Rattle.room.proofs.room.make_room.Goals as goal
 
 pub returns-then-not-s : goal.returns-then-not-s

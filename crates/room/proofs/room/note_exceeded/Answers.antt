@@ -7,7 +7,6 @@ use mathlib.Core.Path.{sym}
 use native.Mathlib.Omega.{arith}
 use borrow.Author.Tests.{lt-ltb, le-ltb}
 use Rattle.rules.specs.Rows.{held_bytes}
-use borrow.Author.Rules.{rules}
 use Rattle.room.proofs.room.note_exceeded.Goals as goal
 
 pub overflow_add-held : goal.overflow_add-held

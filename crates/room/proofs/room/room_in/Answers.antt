@@ -1,10 +1,8 @@
 -- What the first step leaves lets the second begin, and both together are the rule; in the modes that don't write the first is all.
-use borrow.Author.Tests.{not-true, not-false}
 use Rattle.layout.specs.Picture.{cache_in}
 use Rattle.room.proofs.Joined.{other_joins, held_left, first_good, first_fits, alone_joins}
 use Rattle.room.specs.First.{evict_in}
 use native.Mathlib.Omega.{arith}
-use borrow.Author.Rules.{rules}
 use Rattle.room.proofs.room.room_in.Goals as goal
 
 pub returns-then-not-alone : goal.returns-then-not-alone

@@ -1,15 +1,8 @@
-use Prim.Native.Nat.{◌+◌, ◌-◌}
-use mathlib.Core.Path.{◌≡◌, refl, sym, ◌∙◌}
-use lib.ListN.{length}
-use Rattle.rules.proofs.Moved.{left}
-use Rattle.rules.specs.Cache.{amend_at}
-use Rattle.rules.specs.Entries.{cleaned}
-use Rattle.layout.specs.Picture.{cache_in, rest_in}
-use Rattle.table.specs.Told.{listed_at}
+use mathlib.Core.Path.{refl, sym, ◌∙◌}
+use Rattle.layout.specs.Picture.{cache_in}
 use Rattle.room.proofs.Kept.{gave, kept_good, left_write}
-use Rattle.room.proofs.Writing.{Writing, writing_start, within, writing_skip, writing_write, writing_met, writing_end, writing_in}
+use Rattle.room.proofs.Writing.{writing_start, within, writing_skip, writing_write, writing_met, writing_end, writing_in}
 use native.Mathlib.Omega.{arith}
-use borrow.Author.Rules.{rules}
 use Rattle.room.proofs.share.write_until.Goals as goal
 
 pub loop-pos-init : goal.loop-pos-init

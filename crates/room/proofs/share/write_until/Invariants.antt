@@ -1,17 +1,10 @@
 -- What the rule does from the place reached is what it does from the start, and the missing bytes carried along are those of the table's
 -- cache.
-use Prim.Native.Nat.{◌+◌, ◌-◌}
-use mathlib.Core.Path.{◌≡◌, refl, sym, ◌∙◌}
+use Prim.Native.Nat.{◌-◌}
+use mathlib.Core.Path.{◌≡◌}
 use lib.ListN.{length}
-use Rattle.rules.proofs.Moved.{left}
-use Rattle.rules.specs.Cache.{amend_at}
-use Rattle.rules.specs.Entries.{cleaned}
 use Rattle.layout.specs.Picture.{cache_in, rest_in}
-use Rattle.table.specs.Told.{listed_at}
-use Rattle.room.proofs.Kept.{gave, kept_good, left_write}
-use Rattle.room.proofs.Writing.{Writing, writing_start, within, writing_skip, writing_write, writing_met, writing_end, writing_in}
-use native.Mathlib.Omega.{arith}
-use borrow.Author.Rules.{rules}
+use Rattle.room.proofs.Writing.{Writing}
 use Rattle.room.proofs.share.write_until.Given as goal
 
 abbrev pub invariant-loop-pos : goal.invariant-loop-pos

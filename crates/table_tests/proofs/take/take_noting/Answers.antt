@@ -3,8 +3,6 @@ use Rattle.table_tests.proofs.Taking.{kept_long, not_standby, is_cut, is_malform
 use Rattle.layout.specs.Picture.{cache_in}
 use Rattle.rules.specs.Messages.{read_message}
 use mathlib.Core.Path.{sym}
-use native.Mathlib.Omega.{arith}
-use borrow.Author.Rules.{rules}
 use mathlib.Core.Path.{ap}
 use mathlib.Core.Bool.{not}
 use Rattle.table_tests.proofs.take.take_noting.Goals as goal

@@ -2,8 +2,6 @@
 use Rattle.table_tests.proofs.Taking.{turn_is, right_number, right_ones, right_long, right_bad, right_good}
 use Rattle.layout.specs.Picture.{cache_in}
 use mathlib.Core.Path.{refl}
-use native.Mathlib.Omega.{arith}
-use borrow.Author.Rules.{rules}
 use Rattle.table_tests.proofs.take.test_right.Goals as goal
 
 pub returns-then-out_of_turn : goal.returns-then-out_of_turn
