@@ -1,11 +1,10 @@
 -- Many requests on one table: what a batch answers and leaves, on any input.
-use Rattle.std.specs.Prelude.{ℕ, suc, ◌+◌, ◌*◌, Bool, List, [], ◌∷◌, ◌++◌, eqb, ltb, length, take, drop}
+use Rattle.std.specs.Prelude.{ℕ, suc, ◌+◌, ◌*◌, Bool, List, [], ◌∷◌, ◌++◌, eqb, ltb, length, take, drop, if◌then◌else◌}
 use Rattle.rules.specs.declared.answer.Answer.TheVariants.{Refused}
 use Rattle.rules.specs.declared.answer.Refusal.TheVariants as refusal
 use Rattle.rules.specs.declared.answer.Verdict.{Verdict}
 use Rattle.rules.specs.declared.answer.Verdict.TheVariants as verdict
 use Rattle.rules.specs.Answers.{answer_number, answer_orders}
-use Rattle.rules.specs.Entries.{if◌then◌else◌}
 use Rattle.judge.specs.Verdict.{judge_words}
 use Rattle.cache.specs.Tables.{Left, left, step_words}
 use Rattle.numbers.specs.Meanings.{asked, plain_of}

@@ -1,6 +1,5 @@
 -- What is known of the held bytes from one request of a batch to the next.
-use Rattle.std.specs.Prelude.{ℕ, ◌&&◌, eqb, leb}
-use Rattle.rules.specs.Entries.{if◌then◌else◌}
+use Rattle.std.specs.Prelude.{ℕ, ◌&&◌, eqb, leb, if◌then◌else◌}
 use Rattle.room.specs.declared.held.Held.{Held}
 use Rattle.room.specs.declared.held.Held.TheVariants.{Unknown}
 

@@ -1,11 +1,10 @@
 -- Asking: what a request would answer.
-use Rattle.std.specs.Prelude.{ℕ, false, true, List}
+use Rattle.std.specs.Prelude.{ℕ, false, true, List, if◌then◌else◌}
 use Rattle.rules.specs.declared.answer.Refusal.TheVariants as refusal
 use Rattle.rules.specs.declared.answer.Verdict.{Verdict}
 use Rattle.rules.specs.declared.answer.Verdict.TheVariants as verdict
 use Rattle.rules.specs.declared.request.Request.{Request}
 use Rattle.rules.specs.Answers.{verdict_of}
-use Rattle.rules.specs.Entries.{if◌then◌else◌}
 use Rattle.rules.specs.Hosts.{asking}
 use Rattle.rules.specs.Refusals.{refusal_of}
 use Rattle.layout.specs.Picture.{cache_in}

@@ -1,5 +1,5 @@
 -- The entry points on the words of a table: what each answers and leaves, on any input.
-use Rattle.std.specs.Prelude.{ℕ, false, List, leb, length, drop, replicate}
+use Rattle.std.specs.Prelude.{ℕ, false, List, leb, length, drop, replicate, if◌then◌else◌}
 use Rattle.std.proofs.Math.Option.{Option, none, some}
 use Rattle.settings.specs.declared.Settings.{Settings}
 use Rattle.rules.specs.declared.answer.Answer.{Answer}
@@ -10,7 +10,6 @@ use Rattle.rules.specs.declared.report.Report.{Report}
 use Rattle.settings.specs.declared.Mode.{Mode}
 use Rattle.rules.specs.declared.request.Request.{Request}
 use Rattle.rules.specs.Cache.{Cache, fresh}
-use Rattle.rules.specs.Entries.{if◌then◌else◌}
 use Rattle.rules.specs.Hosts.{asking}
 use Rattle.rules.specs.Opening.{refusal_of_opening}
 use Rattle.rules.specs.Reports.{report_of}

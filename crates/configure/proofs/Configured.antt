@@ -1,4 +1,5 @@
 -- Settings taken: the maximum they give is in their range, and the counters restart.
+use Rattle.std.specs.Prelude.{if◌then◌else◌}
 use Prim.Native.Nat.{ℕ, ◌≤◌, min, max}
 use mathlib.Core.Bool.{false}
 use mathlib.Core.List.{List}
@@ -10,7 +11,6 @@ use Rattle.settings.specs.declared.Settings.{Settings}
 use Rattle.rules.proofs.Figures.{configured_range}
 use Rattle.rules.proofs.Tests.{choose, either}
 use Rattle.rules.specs.Cache.{Cache, start, with_settings, with_maximum, restart}
-use Rattle.rules.specs.Entries.{if◌then◌else◌}
 use Rattle.rules.specs.Limits.{count_stop}
 use Rattle.rules.specs.Refusals.{too_few_words}
 use Rattle.rules.specs.Requests.{brought, configured}

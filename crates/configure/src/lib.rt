@@ -1,10 +1,9 @@
 // Configure, where it is not refused: new settings, the maximum they give, and room for nothing.
 #![tactic(auto)]
 
-ghost use Rattle.std.specs.Prelude.{◌≡◌, false, [], length};
+ghost use Rattle.std.specs.Prelude.{◌≡◌, false, [], length, if◌then◌else◌};
 ghost use Rattle.settings.specs.Validation.{first_bad};
 ghost use Rattle.rules.specs.declared.request.Request.TheVariants.{Configure};
-ghost use Rattle.rules.specs.Entries.{if◌then◌else◌};
 ghost use Rattle.rules.specs.Hosts.{asking};
 ghost use Rattle.rules.specs.Requests.{brought, configured, effect};
 ghost use Rattle.reason_rules.specs.Reasons.{settings_change};

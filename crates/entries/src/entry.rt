@@ -1,7 +1,7 @@
 // Entries.
-ghost use Rattle.std.specs.Prelude.{◌≡◌, ◌+◌, min};
+ghost use Rattle.std.specs.Prelude.{◌≡◌, ◌+◌, min, if◌then◌else◌};
 ghost use Rattle.rules.specs.Allowed.{HoldAllowed};
-ghost use Rattle.rules.specs.Entries.{if◌then◌else◌, is_held, is_listed, cleaned, changed_to, with_pin, protected_for, released, new_entry};
+ghost use Rattle.rules.specs.Entries.{is_held, is_listed, cleaned, changed_to, with_pin, protected_for, released, new_entry};
 ghost use Rattle.rules.specs.Limits.{most_idle};
 
 use crate::hold::{is_held, joined, less_one};

@@ -1,4 +1,5 @@
 -- The loop of age-out: what the rule does from a place on is what it does from the start.
+use Rattle.std.specs.Prelude.{if◌then◌else◌}
 use Prim.Native.Nat.{ℕ, suc, ◌+◌, ◌-◌, ◌<◌, ◌≤◌}
 use mathlib.Core.Bool.{Bool, true, false, true≢false}
 use mathlib.Core.List.{List, []}
@@ -14,7 +15,7 @@ use Rattle.rules.proofs.Found.{get_amend, length_remove, length_amend}
 use Rattle.rules.proofs.Moved.{left}
 use Rattle.rules.specs.Refusals.{is_alone}
 use Rattle.rules.specs.Cache.{Cache, Work, start, give, amend_at}
-use Rattle.rules.specs.Entries.{if◌then◌else◌, cleaned}
+use Rattle.rules.specs.Entries.{cleaned}
 use Rattle.rules.specs.Resizing.{aged_at, expel, evict_aged}
 use Rattle.rules.specs.Room.{evict, write_in_place}
 use Rattle.rules.specs.Rows.{get, passes, amend, dirty_at, size_at}

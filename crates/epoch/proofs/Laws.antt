@@ -1,4 +1,5 @@
 -- The end of an epoch: each step's table lets the next begin, and all steps together are the rule.
+use Rattle.std.specs.Prelude.{if◌then◌else◌}
 use Prim.Native.Nat.{ℕ, ◌+◌, ◌≤◌, ◌<◌, min, max}
 use mathlib.Core.Bool.{Bool, true, false, ◌&&◌, ◌||◌}
 use mathlib.Core.List.{List, append-nil}
@@ -22,7 +23,6 @@ use Rattle.rules.proofs.Moved.{moved}
 use Rattle.rules.proofs.Moves.{aged_moves, sound_listed}
 use Rattle.rules.proofs.Tests.{choose, either}
 use Rattle.rules.specs.Cache.{Cache, Work, start, with_maximum, with_counters, restart, held}
-use Rattle.rules.specs.Entries.{if◌then◌else◌}
 use Rattle.rules.specs.Resizing.{is_below, is_full, at_most, at_least, increased_by, increased_in, lowered, lowered_in, lower, evict_aged, age_out, decreased_by, resized, aged, end_epoch, counts, counted, count_access}
 use Rattle.rules.specs.Room.{make_room}
 use Rattle.layout.proofs.Held.{holds_cache, holds_rest, onward}

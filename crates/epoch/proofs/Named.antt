@@ -1,4 +1,5 @@
 -- The changes and reasons that the steps of an epoch's end tell are the rules'.
+use Rattle.std.specs.Prelude.{if◌then◌else◌}
 use Prim.Native.Nat.{ℕ, ◌+◌, ◌-◌, ◌≤◌, ◌<◌}
 use mathlib.Core.Bool.{Bool, true, false, ◌&&◌}
 use mathlib.Core.List.{List, [], ◌++◌}
@@ -14,7 +15,6 @@ use Rattle.settings.specs.declared.Decrease.TheVariants as decrease
 use Rattle.settings.specs.declared.Settings.{Settings}
 use Rattle.rules.proofs.Tests.{and_false}
 use Rattle.rules.specs.Cache.{Cache, Work, start, held, with_counters, restart}
-use Rattle.rules.specs.Entries.{if◌then◌else◌}
 use Rattle.rules.specs.Resizing.{lowered, lowered_in, increased_in, evict_aged, aged, counts}
 use Rattle.reason_rules.proofs.Choices.{if_true, if_false}
 use Rattle.reason_rules.specs.declared.Bound.{Bound}

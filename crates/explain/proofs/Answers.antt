@@ -1,4 +1,5 @@
 -- What an explained request comes to: what the step comes to, with the rules' reasons and change, or a refusal that names none.
+use Rattle.std.specs.Prelude.{if◌then◌else◌}
 use Prim.Native.Nat.{ℕ, ◌+◌, ◌*◌, ◌≤◌}
 use mathlib.Core.Bool.{Bool, true, false, ◌&&◌, true≢false}
 use mathlib.Core.List.{List, []}
@@ -16,7 +17,6 @@ use Rattle.rules.specs.declared.request.Request.{Request}
 use Rattle.rules.specs.declared.request.Request.TheVariants.{Insert, Protect, Release, ReleaseChanged, Pin, Unpin, Resize, Discard, Flush, Sync, Take, Configure}
 use Rattle.rules.proofs.Tests.{split}
 use Rattle.rules.specs.Cache.{Cache}
-use Rattle.rules.specs.Entries.{if◌then◌else◌}
 use Rattle.rules.specs.Given.{can_order}
 use Rattle.rules.specs.Hosts.{asking}
 use Rattle.rules.specs.Refusals.{Call, refusal_of}

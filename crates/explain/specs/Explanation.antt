@@ -1,9 +1,8 @@
 -- An explained request on the words of a table: what it answers, names and leaves, on any input.
-use Rattle.std.specs.Prelude.{ℕ, List, ◌++◌, map, length, drop}
+use Rattle.std.specs.Prelude.{ℕ, List, ◌++◌, map, length, drop, if◌then◌else◌}
 use Rattle.rules.specs.declared.answer.Answer.TheVariants.{Refused}
 use Rattle.rules.specs.declared.answer.Refusal.TheVariants as refusal
 use Rattle.rules.specs.declared.request.Request.{Request}
-use Rattle.rules.specs.Entries.{if◌then◌else◌}
 use Rattle.rules.specs.Hosts.{asking}
 use Rattle.reason_rules.specs.declared.Change.{Change}
 use Rattle.reason_rules.specs.declared.Change.TheVariants as change

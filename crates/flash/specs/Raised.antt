@@ -1,10 +1,9 @@
 -- The parts of a flash.
-use Rattle.std.specs.Prelude.{ℕ, Bool, false, ltb}
+use Rattle.std.specs.Prelude.{ℕ, Bool, false, ltb, if◌then◌else◌}
 use Rattle.fraction.specs.Fraction.{exceeds_share}
 use Rattle.settings.specs.declared.Flash.{Flash}
 use Rattle.settings.specs.declared.Flash.TheVariants as flash
 use Rattle.rules.specs.Cache.{Cache, with_maximum, restart}
-use Rattle.rules.specs.Entries.{if◌then◌else◌}
 
 -- Whether x bytes exceed the threshold's share of the maximum.
 abbrev pub is_flash : Flash → ℕ → ℕ → Bool

@@ -1,8 +1,7 @@
 // The flash: a large incoming size raises the maximum before any room is made.
 #![tactic(auto)]
 
-ghost use Rattle.std.specs.Prelude.{◌≡◌, Bool, ◌≤◌, ltb};
-ghost use Rattle.rules.specs.Entries.{if◌then◌else◌};
+ghost use Rattle.std.specs.Prelude.{◌≡◌, Bool, ◌≤◌, ltb, if◌then◌else◌};
 ghost use Rattle.rules.specs.Resizing.{flashed};
 ghost use Rattle.reason_rules.specs.declared.Cause.TheVariants as cause;
 ghost use Rattle.reason_rules.specs.declared.Change.TheVariants as change;

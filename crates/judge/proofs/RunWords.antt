@@ -1,4 +1,5 @@
 -- A run of row numbers: its words and the numbers read from them, both ways.
+use Rattle.std.specs.Prelude.{if◌then◌else◌}
 use Prim.Native.Nat.{ℕ, zero, suc, ◌+◌, ◌-◌, ◌≤◌, ◌<◌}
 use mathlib.Core.Path.{◌≡◌, refl, sym, ap, ap₂, ◌∙◌}
 use mathlib.Core.Bool.{false}
@@ -11,7 +12,6 @@ use lib.ListN.{length, get_or, take, drop, replicate, get_or-replicate, length-d
 use lib.Seq.{get_or-drop, get_or-take, get_or-append-add, take-append_seam, length-take-le}
 use Rattle.rules.specs.Addresses.{twice}
 use Rattle.rules.specs.Limits.{most_rows}
-use Rattle.rules.specs.Entries.{if◌then◌else◌}
 use Rattle.rules.proofs.Tests.{choose}
 use Rattle.layout.specs.Layout.{ones}
 use Rattle.layout.specs.Picture.{run, run_of}

@@ -1,4 +1,5 @@
 -- Rows by number: a row that is written is the entry at its address changed, removed or placed, since addresses are distinct.
+use Rattle.std.specs.Prelude.{if◌then◌else◌}
 use Prim.Native.Nat.{ℕ, zero, suc, ◌<◌}
 use mathlib.Core.Bool.{true, false, false≢true}
 use mathlib.Core.List.{List, [], ◌∷◌}
@@ -12,7 +13,6 @@ use Rattle.rules.specs.declared.entry.Entry.{Entry}
 use Rattle.rules.specs.declared.entry.Row.TheVariants.{Free, Used}
 use Rattle.rules.specs.declared.entry.Row.{Row}
 use Rattle.rules.specs.Allowed.{Distinct}
-use Rattle.rules.specs.Entries.{if◌then◌else◌}
 use Rattle.rules.specs.Rows.{get, amend, remove, place, has_free}
 use Rattle.rules.proofs.Found.{amend_absent, remove_absent}
 use Rattle.rules.proofs.Tests.{split, choose, alike}

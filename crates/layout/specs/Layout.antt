@@ -15,8 +15,7 @@
 --   31 + 6 n   recency run: row numbers from the tail to the head, then all ones
 --   31 + 7 n   address run: row numbers of the entries by rising address, then all ones
 --   31 + 8 n   the end of the layout
-use Rattle.std.specs.Prelude.{ℕ, ◌+◌, ◌*◌, eqb}
-use Rattle.rules.specs.Entries.{if◌then◌else◌}
+use Rattle.std.specs.Prelude.{ℕ, ◌+◌, ◌*◌, eqb, if◌then◌else◌}
 use Rattle.rules.specs.declared.entry.Hold.{Hold}
 use Rattle.rules.specs.declared.entry.Hold.TheVariants.{Unheld, Readers, Writer}
 use Rattle.rules.specs.declared.order.Kind.{Kind}

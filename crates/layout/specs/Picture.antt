@@ -1,5 +1,5 @@
 -- The words of a cache, and the cache that words picture.
-use Rattle.std.specs.Prelude.{ℕ, zero, suc, ◌+◌, ◌*◌, ◌-◌, List, [], ◌∷◌, ◌++◌, map, eqb, length, get_or, drop, replicate}
+use Rattle.std.specs.Prelude.{ℕ, zero, suc, ◌+◌, ◌*◌, ◌-◌, List, [], ◌∷◌, ◌++◌, map, eqb, length, get_or, drop, replicate, if◌then◌else◌}
 use Rattle.settings_words.specs.Words.{flag_word, flag_of, settings_words}
 use Rattle.settings_words.specs.Picture.{settings_of}
 use Rattle.rules.specs.declared.entry.Entry.{Entry}
@@ -8,7 +8,6 @@ use Rattle.rules.specs.declared.entry.Row.TheVariants.{Free, Used}
 use Rattle.rules.specs.declared.order.Order.{Order}
 use Rattle.rules.specs.Addresses.{insert_rising}
 use Rattle.rules.specs.Cache.{Cache}
-use Rattle.rules.specs.Entries.{if◌then◌else◌}
 use Rattle.layout.specs.Layout.{ones, version, row_count_at, mode_at, threshold_at, maximum_at, accesses_at, hits_at, count_at, next_at, exceeded_at, settings_at, row_at, recency_at, layout_words, mode_word, mode_of, hold_word, hold_of, kind_word}
 
 -- ---- rows by number

@@ -1,8 +1,7 @@
 -- Where an entry goes: its row, and its place among the rising addresses.
-use Rattle.std.specs.Prelude.{ℕ, suc, List, [], ◌∷◌, ltb}
+use Rattle.std.specs.Prelude.{ℕ, suc, List, [], ◌∷◌, ltb, if◌then◌else◌}
 use Rattle.rules.specs.declared.entry.Row.TheVariants.{Free, Used}
 use Rattle.rules.specs.declared.entry.Row.{Row}
-use Rattle.rules.specs.Entries.{if◌then◌else◌}
 
 -- The lowest free row; the number of rows where none is free.
 unfoldable pub lowest_free : List Row → ℕ

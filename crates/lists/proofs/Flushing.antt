@@ -1,5 +1,6 @@
 -- A flush walks the rising addresses. Those dirty are the rules' list, since both rise and have the same addresses; an address that
 -- is still to come was not cleaned, so it is dirty, and of the size, as at the start.
+use Rattle.std.specs.Prelude.{if◌then◌else◌}
 use Prim.Native.Nat.{ℕ, suc, ◌+◌, ◌≤◌, ◌<◌}
 use mathlib.Core.Bool.{Bool, true, false, ◌&&◌}
 use mathlib.Core.List.{List, [], ◌∷◌, ◌++◌}
@@ -17,7 +18,7 @@ use Rattle.rules.proofs.Tests.{split, choose, either, and_true, and_false}
 use Rattle.rules.specs.Addresses.{elem, twice}
 use Rattle.rules.specs.Allowed.{Distinct, Sound}
 use Rattle.rules.specs.Cache.{Cache, amend_at}
-use Rattle.rules.specs.Entries.{if◌then◌else◌, cleaned}
+use Rattle.rules.specs.Entries.{cleaned}
 use Rattle.rules.specs.Requests.{writes_of}
 use Rattle.rules.specs.Rising as rules-rising
 use Rattle.rules.specs.Rows.{get, passes, amend_each, dirty_at, dirty_rising, size_at}

@@ -1,10 +1,10 @@
 -- The number of a list that is sent or taken is used up.
+use Rattle.std.specs.Prelude.{if◌then◌else◌}
 use Prim.Native.Nat.{ℕ}
 use mathlib.Core.Bool.{Bool, true, false}
 use mathlib.Core.List.{List}
 use mathlib.Core.Path.{◌≡◌, sym, ap, subst, ◌∙◌}
 use Rattle.rules.specs.Cache.{Cache, with_next}
-use Rattle.rules.specs.Entries.{if◌then◌else◌}
 use Rattle.rules.specs.Messages.{next_after}
 use Rattle.rules.specs.Refusals.{is_lead}
 use Rattle.rules.specs.Requests.{numbered}

@@ -1,4 +1,5 @@
 -- One byte: what the rules say at each place, and what the code does there.
+use Rattle.std.specs.Prelude.{if◌then◌else◌}
 use Prim.Native.Nat.{ℕ, zero, suc, ◌+◌, ◌-◌, ◌<◌, ◌≤◌, ◌^◌}
 use mathlib.Core.Bool.{Bool, ◌||◌}
 use mathlib.Core.List.{List, [], ◌∷◌, ◌++◌}
@@ -14,7 +15,6 @@ use Rattle.rules.proofs.Lists.{elem_append}
 use Rattle.rules.proofs.Messages.{at}
 use Rattle.rules.proofs.Tests.{or_false}
 use Rattle.rules.specs.Addresses.{elem}
-use Rattle.rules.specs.Entries.{if◌then◌else◌}
 use Rattle.rules.specs.Limits.{all_ones}
 use Rattle.rules.specs.Messages as messages
 use Rattle.rules.specs.Messages.{Reading, going, wrong, must, tag, number_byte, count_byte, address_byte, last_byte, feed, power256, Within}

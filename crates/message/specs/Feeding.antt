@@ -1,7 +1,6 @@
 -- One byte of a message: the reader of the code and that of the rules.
-use Rattle.std.specs.Prelude.{ℕ, List, [], ◌∷◌, ◌++◌, ◌≡◌, eqb, length}
+use Rattle.std.specs.Prelude.{ℕ, List, [], ◌∷◌, ◌++◌, ◌≡◌, eqb, length, if◌then◌else◌}
 use Rattle.rules.specs.Addresses.{elem}
-use Rattle.rules.specs.Entries.{if◌then◌else◌}
 use Rattle.rules.specs.Limits.{all_ones}
 use Rattle.rules.specs.Messages as messages
 use Rattle.rules.specs.Messages.{Reading, going, wrong, move_to, Within}

@@ -1,7 +1,6 @@
 -- A message, read whole: what its first bytes lead to, and what the code has then.
-use Rattle.std.specs.Prelude.{ℕ, ◌+◌, ◌*◌, ◌-◌, ◌≤◌, ◌<◌, Bool, false, ◌&&◌, List, ◌≡◌, eqb, length, get_or, take}
+use Rattle.std.specs.Prelude.{ℕ, ◌+◌, ◌*◌, ◌-◌, ◌≤◌, ◌<◌, Bool, false, ◌&&◌, List, ◌≡◌, eqb, length, get_or, take, if◌then◌else◌}
 use Rattle.rules.specs.Addresses.{elem}
-use Rattle.rules.specs.Entries.{if◌then◌else◌}
 use Rattle.rules.specs.Limits.{all_ones, most_rows}
 use Rattle.rules.specs.Messages.{Reading, going, wrong, fresh_reader, feed_on, feed_all, Within, Message, right, early, malformed}
 use Rattle.message.specs.Feeding.{having, Keeps}

@@ -1,7 +1,6 @@
 -- Writing a message.
-use Rattle.std.specs.Prelude.{ℕ, ◌+◌, ◌*◌, List, ◌∷◌, ◌++◌, ltb, length, drop}
+use Rattle.std.specs.Prelude.{ℕ, ◌+◌, ◌*◌, List, ◌∷◌, ◌++◌, ltb, length, drop, if◌then◌else◌}
 use Rattle.rules.specs.declared.answer.Refusal.TheVariants.{OrderWords, Malformed}
-use Rattle.rules.specs.Entries.{if◌then◌else◌}
 use Rattle.rules.specs.Limits.{most_listed}
 use Rattle.rules.specs.Messages.{bytes_of, message_of}
 use Rattle.message.specs.declared.write.Written.{Written}

@@ -1,6 +1,5 @@
 // One byte of a message.
-ghost use Rattle.std.specs.Prelude.{◌≡◌, ◌≤◌, ◌<◌, ◌^◌, eqb};
-ghost use Rattle.rules.specs.Entries.{if◌then◌else◌};
+ghost use Rattle.std.specs.Prelude.{◌≡◌, ◌≤◌, ◌<◌, ◌^◌, eqb, if◌then◌else◌};
 ghost use Rattle.rules.specs.Messages as messages;
 ghost use Rattle.message.specs.Feeding.{Sound, expects, Feeds};
 

@@ -1,5 +1,5 @@
 -- What the numbers that a host gives stand for.
-use Rattle.std.specs.Prelude.{ℕ, List, [], ◌∷◌, ◌++◌, eqb}
+use Rattle.std.specs.Prelude.{ℕ, List, [], ◌∷◌, ◌++◌, eqb, if◌then◌else◌}
 use Rattle.std.proofs.Math.Option.{Option, none, some, get_or}
 use Rattle.fraction.specs.Fraction.{decimal}
 use Rattle.settings.specs.declared.Settings.{Settings}
@@ -12,7 +12,6 @@ use Rattle.settings.specs.declared.Flash.TheVariants as flash
 use Rattle.settings.specs.declared.Decrease.{Decrease}
 use Rattle.settings.specs.declared.Decrease.TheVariants as decrease
 use Rattle.settings_words.specs.Words.{flag_of}
-use Rattle.rules.specs.Entries.{if◌then◌else◌}
 use Rattle.rules.specs.Limits.{all_ones}
 use Rattle.rules.specs.declared.request.Access.TheVariants.{Reading, Writing}
 use Rattle.settings.specs.declared.Mode.{Mode}

@@ -1,4 +1,5 @@
 -- The bound that is named decided the value, and no other did.
+use Rattle.std.specs.Prelude.{if◌then◌else◌}
 use Prim.Native.Nat.{ℕ, ◌+◌, ◌-◌, ◌≤◌, ◌<◌, min, max}
 use mathlib.Core.Path.{◌≡◌, refl, sym, ap, subst, ◌∙◌}
 use mathlib.Core.Logic.{◌⊎◌, inl, inr}
@@ -9,7 +10,6 @@ use lib.Dec.{leb, ltb}
 use borrow.Author.Tests.{ltb-true, ltb-false, leb-true, leb-false}
 use Rattle.settings.specs.declared.Cap.TheVariants as cap
 use Rattle.settings.specs.declared.Cap.{Cap}
-use Rattle.rules.specs.Entries.{if◌then◌else◌}
 use Rattle.rules.specs.Resizing.{at_most, at_least}
 use Rattle.rules.proofs.Tests.{choose, both}
 use Rattle.reason_rules.specs.declared.Bound.TheVariants as bound

@@ -1,5 +1,6 @@
 -- A request changes the maximum at most once, and names a change exactly if the maximum differs. Only a miss has two chances: a flash that
 -- rose restarts the counters, so its access is the first of 100 at least and ends no epoch.
+use Rattle.std.specs.Prelude.{if◌then◌else◌}
 use Prim.Native.Nat.{ℕ, ◌+◌, ◌≤◌}
 use mathlib.Core.Path.{◌≡◌, refl, sym, ap, subst, ◌∙◌}
 use mathlib.Core.Logic.{◌↔◌}
@@ -21,7 +22,7 @@ use Rattle.rules.specs.declared.request.Request.TheVariants.{Insert, Protect, Re
 use Rattle.rules.specs.declared.request.Request.{Request}
 use Rattle.rules.specs.Allowed.{Sound, Allowed}
 use Rattle.rules.specs.Cache.{Cache, Work, start, held, touch, restart, with_maximum}
-use Rattle.rules.specs.Entries.{if◌then◌else◌, changed_to, protected_for, released}
+use Rattle.rules.specs.Entries.{changed_to, protected_for, released}
 use Rattle.rules.specs.Refusals.{Call, tests, first_of, refusal_of}
 use Rattle.rules.specs.Requests.{loaded, room_if_released, growth, named, configured, judged, effect}
 use Rattle.rules.specs.Resizing.{flashed, flashed_to, increased_in, lowered_in, is_above, evict_aged, age_out, decreased_by, resized, aged, end_epoch, counts, counted, count_access}

@@ -1,7 +1,7 @@
 -- Choices whose test is known, and two choices by one test.
+use Rattle.std.specs.Prelude.{if◌then◌else◌}
 use mathlib.Core.Path.{◌≡◌, refl, ap}
 use mathlib.Core.Bool.{Bool, true, false}
-use Rattle.rules.specs.Entries.{if◌then◌else◌}
 
 pub if_true {ℓ} : {A : Type ℓ} (t : Bool) (x y : A) → t ≡ true → (if t then x else y) ≡ x
 if_true t x y h = ap (λ (s : Bool). if s then x else y) h

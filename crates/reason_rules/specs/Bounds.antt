@@ -1,9 +1,8 @@
 -- The bound that decides a changed maximum: a rule gives a value of its own, which limits of the settings may cut.
-use Rattle.std.specs.Prelude.{ℕ, ◌+◌, ◌-◌, ◌≤◌, ◌≡◌, ◌⊎◌, ◌&&◌, List, [], ◌∷◌, leb, ltb}
+use Rattle.std.specs.Prelude.{ℕ, ◌+◌, ◌-◌, ◌≤◌, ◌≡◌, ◌⊎◌, ◌&&◌, List, [], ◌∷◌, leb, ltb, if◌then◌else◌}
 use Rattle.settings.specs.declared.Cap.TheVariants as cap
 use Rattle.settings.specs.declared.Cap.{Cap}
 use Rattle.settings.specs.declared.Settings.{Settings}
-use Rattle.rules.specs.Entries.{if◌then◌else◌}
 use Rattle.reason_rules.specs.declared.Bound.TheVariants as bound
 use Rattle.reason_rules.specs.declared.Bound.{Bound}
 

@@ -1,5 +1,5 @@
 -- What is named: the reason of each order, and of each change of the maximum its cause and bound, by the phases of a request.
-use Rattle.std.specs.Prelude.{ℕ, ◌+◌, ◌-◌, ◌*◌, Bool, true, false, ◌&&◌, List, [], ◌∷◌, ◌++◌, map, leb, ltb, eqb, Float, length, replicate}
+use Rattle.std.specs.Prelude.{ℕ, ◌+◌, ◌-◌, ◌*◌, Bool, true, false, ◌&&◌, List, [], ◌∷◌, ◌++◌, map, leb, ltb, eqb, Float, length, replicate, if◌then◌else◌}
 use Rattle.std.proofs.Math.Option.{Option, none, some}
 use Rattle.std.specs.Float.Ieee.{eq}
 use Rattle.fraction.specs.Fraction.{decimal, size_product, hit_rate, reserve_quotient}
@@ -16,7 +16,7 @@ use Rattle.rules.specs.declared.answer.Refusal.{Refusal}
 use Rattle.rules.specs.declared.request.Request.TheVariants.{Insert, Protect, Release, ReleaseChanged, Pin, Unpin, Resize, Discard, Flush, Sync, Take, Configure}
 use Rattle.rules.specs.declared.request.Request.{Request}
 use Rattle.rules.specs.Cache.{Cache, Work, start, held, touch}
-use Rattle.rules.specs.Entries.{if◌then◌else◌, is_held, changed_to, protected_for, released}
+use Rattle.rules.specs.Entries.{is_held, changed_to, protected_for, released}
 use Rattle.rules.specs.Given.{can_order}
 use Rattle.rules.specs.Loops.{turn_in}
 use Rattle.rules.specs.Refusals.{Call, refusal_of}

@@ -1,8 +1,8 @@
 -- The change that a list names, where a test decides whether it has one.
+use Rattle.std.specs.Prelude.{if◌then◌else◌}
 use mathlib.Core.Bool.{Bool, true, false}
 use mathlib.Core.List.{List, [], ◌++◌}
 use mathlib.Core.Path.{◌≡◌, refl}
-use Rattle.rules.specs.Entries.{if◌then◌else◌}
 use Rattle.reason_rules.specs.declared.Bound.{Bound}
 use Rattle.reason_rules.specs.declared.Cause.{Cause}
 use Rattle.reason_rules.specs.declared.Change.{Change}

@@ -1,11 +1,10 @@
 -- Changes of the maximum over numbers.
-use Rattle.std.specs.Prelude.{ℕ, ◌+◌, ◌-◌, List, [], ◌∷◌, ltb, eqb}
+use Rattle.std.specs.Prelude.{ℕ, ◌+◌, ◌-◌, List, [], ◌∷◌, ltb, eqb, if◌then◌else◌}
 use Rattle.fraction.specs.Fraction.{size_product}
 use Rattle.settings.specs.declared.Cap.{Cap}
 use Rattle.settings.specs.declared.Flash.{Flash}
 use Rattle.settings.specs.declared.Flash.TheVariants as flash
 use Rattle.settings.specs.declared.Settings.{Settings}
-use Rattle.rules.specs.Entries.{if◌then◌else◌}
 use Rattle.rules.specs.Resizing.{free_space}
 use Rattle.reason_rules.specs.declared.Cause.{Cause}
 use Rattle.reason_rules.specs.declared.Cause.TheVariants as cause

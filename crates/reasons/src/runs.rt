@@ -1,7 +1,6 @@
 // A request's orders by runs: orders one after the other that have one reason.
-ghost use Rattle.std.specs.Prelude.{◌≡◌, [], replicate};
+ghost use Rattle.std.specs.Prelude.{◌≡◌, [], replicate, if◌then◌else◌};
 ghost use Rattle.reason_rules.specs.declared.Reason.TheVariants as reason;
-ghost use Rattle.rules.specs.Entries.{if◌then◌else◌};
 ghost use Rattle.reasons.specs.Runs.{room_runs, all_runs};
 
 use reason_rules::{Change, Reason};

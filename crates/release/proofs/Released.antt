@@ -1,4 +1,5 @@
 -- An entry that loses a hold: it is touched in its row, and room is made for nothing unless it is still held.
+use Rattle.std.specs.Prelude.{if◌then◌else◌}
 use Prim.Native.Nat.{ℕ}
 use mathlib.Core.Bool.{Bool, true, false}
 use mathlib.Core.List.{List, []}
@@ -11,7 +12,7 @@ use Rattle.rules.proofs.Found.{get_amend, length_amend}
 use Rattle.rules.proofs.Totals.{total_same}
 use Rattle.rules.specs.Allowed.{EntryAllowed}
 use Rattle.rules.specs.Cache.{Cache, start, touch}
-use Rattle.rules.specs.Entries.{if◌then◌else◌, is_held, less_one, changed_to, released}
+use Rattle.rules.specs.Entries.{is_held, less_one, changed_to, released}
 use Rattle.rules.specs.Refusals.{bad_size, too_few_words}
 use Rattle.rules.specs.Requests.{named, room_if_released}
 use Rattle.rules.specs.Room.{make_room}

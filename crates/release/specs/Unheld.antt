@@ -1,8 +1,8 @@
 -- What a release does once the hold is gone.
-use Rattle.std.specs.Prelude.{false, List, []}
+use Rattle.std.specs.Prelude.{false, List, [], if◌then◌else◌}
 use Rattle.rules.specs.declared.entry.Hold.{Hold}
 use Rattle.rules.specs.Cache.{Cache, Work, start}
-use Rattle.rules.specs.Entries.{if◌then◌else◌, is_held}
+use Rattle.rules.specs.Entries.{is_held}
 use Rattle.rules.specs.Room.{make_room}
 use Rattle.reason_rules.specs.declared.Reason.{Reason}
 use Rattle.reason_rules.specs.Reasons.{room_reasons}

@@ -1,4 +1,5 @@
 -- A report whose figures are each what the rules say is the rules' report.
+use Rattle.std.specs.Prelude.{if◌then◌else◌}
 use Prim.Native.Nat.{ℕ}
 use mathlib.Core.List.{List}
 use mathlib.Core.Path.{◌≡◌}
@@ -8,7 +9,6 @@ use Rattle.fraction.specs.Fraction.{size_product}
 use Rattle.settings.specs.declared.Settings.{Settings}
 use Rattle.rules.specs.declared.report.Report.{Report}
 use Rattle.rules.specs.Cache.{Cache}
-use Rattle.rules.specs.Entries.{if◌then◌else◌}
 use Rattle.rules.specs.Reports.{report_of, idle_count, totals_from}
 use Rattle.rules.specs.Room.{share_missing}
 use Rattle.rules.specs.Rows.{held_bytes, total}

@@ -1,8 +1,7 @@
 // The report of the cache that a good table holds.
 #![tactic(auto)]
 
-ghost use Rattle.std.specs.Prelude.{◌≡◌};
-ghost use Rattle.rules.specs.Entries.{if◌then◌else◌};
+ghost use Rattle.std.specs.Prelude.{◌≡◌, if◌then◌else◌};
 ghost use Rattle.rules.specs.Reports.{report_of, idle_count, totals_from};
 ghost use Rattle.rules.specs.Rows.{held_bytes, total};
 ghost use Rattle.layout.specs.Holds.{Good};

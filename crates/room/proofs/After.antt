@@ -1,4 +1,5 @@
 -- No pass reads the orders given before it: they stay in front of its own.
+use Rattle.std.specs.Prelude.{if◌then◌else◌}
 use Prim.Native.Nat.{ℕ, zero, suc, ◌+◌}
 use mathlib.Core.Path.{◌≡◌, refl, ap, ◌∙◌}
 use mathlib.Core.Bool.{Bool, true, false, ◌&&◌}
@@ -15,7 +16,6 @@ use Rattle.settings.specs.declared.Mode.TheVariants.{Alone, Lead, Standby}
 use Rattle.room.specs.After.{after}
 use Rattle.rules.specs.Addresses.{nearest}
 use Rattle.rules.specs.Cache.{Work, with_maximum}
-use Rattle.rules.specs.Entries.{if◌then◌else◌}
 use Rattle.rules.specs.Resizing.{evict_aged, expel, aged_at, lower, increased_in, age_out, decreased_by, resized, aged, end_epoch, counts, count_access, counted, end_if_due}
 use Rattle.rules.specs.Room.{evict, write, write_in_place, lacking, share_missing, look_at_tail, tail_turn, clean_turn, or_stay, turns, write_dirty, room_in, noticed, make_room}
 use Rattle.rules.specs.Rows.{clean_at, dirty_at}

@@ -1,4 +1,5 @@
 -- No reason and no change goes by the orders given before.
+use Rattle.std.specs.Prelude.{if◌then◌else◌}
 use Prim.Native.Nat.{ℕ, ◌-◌}
 use mathlib.Core.Path.{◌≡◌, refl, sym, ap, ap₂, ◌∙◌}
 use mathlib.Core.Bool.{Bool, false}
@@ -14,7 +15,6 @@ use Rattle.settings.specs.declared.Mode.{Mode}
 use Rattle.settings.specs.declared.Mode.TheVariants.{Alone, Lead, Standby}
 use Rattle.rules.specs.declared.order.Order.{Order}
 use Rattle.rules.specs.Cache.{Work, start, held}
-use Rattle.rules.specs.Entries.{if◌then◌else◌}
 use Rattle.rules.specs.Loops.{turn_in}
 use Rattle.rules.specs.Resizing.{resized, aged, increased_in, counted}
 use Rattle.rules.specs.Room.{evict_by, noticed, make_room}

@@ -1,4 +1,5 @@
 -- The loop of the clean share: what the rule does from a place on is what it does from the start.
+use Rattle.std.specs.Prelude.{if◌then◌else◌}
 use Prim.Native.Nat.{ℕ, suc, ◌+◌, ◌-◌, ◌<◌, ◌≤◌}
 use mathlib.Core.Bool.{Bool, true, false, ◌&&◌}
 use mathlib.Core.List.{List, [], ◌∷◌}
@@ -13,7 +14,7 @@ use Rattle.rules.proofs.Found.{length_amend}
 use Rattle.rules.proofs.Tests.{and_false}
 use Rattle.rules.proofs.Share.{missing_write}
 use Rattle.rules.specs.Cache.{Cache, Work, start, give, amend_at}
-use Rattle.rules.specs.Entries.{if◌then◌else◌, cleaned}
+use Rattle.rules.specs.Entries.{cleaned}
 use Rattle.rules.specs.Room.{share_missing, write_in_place, write_dirty}
 use Rattle.rules.specs.Rows.{dirty_at, size_at}
 use Rattle.rules.specs.declared.order.Kind.{Kind}

@@ -1,8 +1,7 @@
 -- What a piece of work on a table leaves.
-use Rattle.std.specs.Prelude.{ℕ, suc, ◌+◌, ◌*◌, ◌≤◌, ◌≡◌, Bool, List, [], ◌∷◌, length}
+use Rattle.std.specs.Prelude.{ℕ, suc, ◌+◌, ◌*◌, ◌≤◌, ◌≡◌, Bool, List, [], ◌∷◌, length, if◌then◌else◌}
 use Rattle.rules.specs.declared.order.Order.{Order}
 use Rattle.rules.specs.Cache.{Cache, Work}
-use Rattle.rules.specs.Entries.{if◌then◌else◌}
 use Rattle.rules.specs.Room.{lacking}
 use Rattle.rules.specs.Rows.{held_bytes}
 use Rattle.rules.proofs.Moved.{left}

@@ -1,6 +1,5 @@
 -- The reasons of the orders of one making of room, by how many each step gave.
-use Rattle.std.specs.Prelude.{ℕ, Bool, List, ◌++◌, replicate}
-use Rattle.rules.specs.Entries.{if◌then◌else◌}
+use Rattle.std.specs.Prelude.{ℕ, Bool, List, ◌++◌, replicate, if◌then◌else◌}
 use Rattle.reason_rules.specs.declared.Reason.{Reason}
 use Rattle.reason_rules.specs.declared.Reason.TheVariants as reason
 

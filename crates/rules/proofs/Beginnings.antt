@@ -1,5 +1,6 @@
 -- One message has one numbered list: the bytes that lead to a reader are known from it, and at the end they are the message. Bytes that end
 -- early are the beginning of one, and where they are malformed, some byte is the first after which none goes on.
+use Rattle.std.specs.Prelude.{if◌then◌else◌}
 use Prim.Native.Nat.{ℕ, zero, suc, ◌+◌, ◌*◌, ◌-◌, ◌/◌, ◌%◌, ◌<◌, ◌≤◌}
 use mathlib.Core.Path.{◌≡◌, refl, sym, ap, subst, ◌∙◌}
 use mathlib.Core.Bool.{Bool, true, false, false≢true, true≢false}
@@ -8,7 +9,6 @@ use native.Mathlib.Omega.{arith}
 use lib.Dec.{eqb, ltb}
 use lib.ListN.{length, length-append}
 use borrow.Author.Tests.{lt-ltb, le-ltb, ltb-true, ltb-false, eqb-true, ne_eqb}
-use Rattle.rules.specs.Entries.{if◌then◌else◌}
 use Rattle.rules.specs.Messages.{bytes_of, address_fields, message_of, Bytes, IsMessage, Unfinished, Begins, WrongAt, Reader, Reading, going, wrong, fresh_reader, feed, feed_all, power256, Message, right, early, malformed, message_in, read_message, is_malformed, is_early}
 use Rattle.rules.proofs.Messages.{feed_append, never_wrong}
 use Rattle.rules.proofs.Readers.{read_within}

@@ -1,5 +1,6 @@
 -- The figures of a cache stay in range: each change of the maximum is cut to the range of the settings, and the counters
 -- restart when the accesses reach the epoch's length.
+use Rattle.std.specs.Prelude.{if◌then◌else◌}
 use Prim.Native.Nat.{ℕ, ◌+◌, ◌≤◌, ◌<◌, min, max}
 use mathlib.Core.Path.{◌≡◌, refl, sym, subst}
 use mathlib.Core.Bool.{Bool, true, false, not, ◌&&◌, false≢true}
@@ -22,7 +23,6 @@ use Rattle.settings.specs.Limits.{size_allowed}
 use Rattle.settings.specs.Validation.{bad_evictions, bad_preset, bad_initial, bad_clean, bad_largest, bad_smallest, bad_epoch, bad_increase, bad_increment, bad_flash, bad_decrease, bad_decrement, first_true, first_bad}
 use Rattle.rules.specs.Allowed.{Sound}
 use Rattle.rules.specs.Cache.{Cache, Work, held}
-use Rattle.rules.specs.Entries.{if◌then◌else◌}
 use Rattle.rules.specs.Limits.{count_stop}
 use Rattle.rules.specs.Requests.{adds, brought, configured}
 use Rattle.rules.specs.Resizing.{flash_maximum, flashed, increased_by, at_most, at_least, lower, evict_aged, age_out, decreased_by, resized, aged, end_epoch, counts, counted, count_access, is_full, is_below, is_above, flashed_to, increased_in, lowered_in}

@@ -1,5 +1,6 @@
 -- A lead or a standby keeps the ledger: what is evicted there is clean, so each accepted request changes the dirty records and the count
 -- as the ledger says, and a local one not at all.
+use Rattle.std.specs.Prelude.{if◌then◌else◌}
 use Prim.Native.Nat.{ℕ, ◌+◌, min}
 use mathlib.Core.Path.{◌≡◌, refl, sym, ap, subst, ◌∙◌}
 use mathlib.Core.Bool.{Bool, true, false, ◌||◌, false≢true}
@@ -16,7 +17,7 @@ use Rattle.rules.specs.declared.request.Request.{Request}
 use Rattle.rules.specs.declared.request.Request.TheVariants.{Insert, Protect, ReleaseChanged, Resize}
 use Rattle.rules.specs.Allowed.{Sound}
 use Rattle.rules.specs.Cache.{Cache, Work, start, touch, with_rows}
-use Rattle.rules.specs.Entries.{if◌then◌else◌, cleaned, changed_to, protected_for, released, with_pin, new_entry, joined}
+use Rattle.rules.specs.Entries.{cleaned, changed_to, protected_for, released, with_pin, new_entry, joined}
 use Rattle.rules.specs.Ledger.{Ledger, Shared, insert, changed, resize, discard, Local, protect, unchanged, pin, unpin, configure, hear, hear_list, names, noted, is_in, dirty_size, ledger_of}
 use Rattle.rules.specs.Limits.{count_stop}
 use Rattle.rules.specs.Refusals.{is_alone, tests, first_of}

@@ -1,4 +1,5 @@
 -- What is found at an address after the rows changed.
+use Rattle.std.specs.Prelude.{if◌then◌else◌}
 use Prim.Native.Nat.{ℕ}
 use mathlib.Core.Path.{◌≡◌, refl, sym, ap, ◌∙◌}
 use mathlib.Core.Bool.{Bool, true, false, false≢true, true≢false}
@@ -10,7 +11,6 @@ use Rattle.rules.specs.declared.entry.Entry.{Entry}
 use Rattle.rules.specs.declared.entry.Row.{Row}
 use Rattle.rules.specs.declared.entry.Row.TheVariants.{Free, Used}
 use Rattle.rules.specs.Allowed.{Distinct}
-use Rattle.rules.specs.Entries.{if◌then◌else◌}
 use Rattle.rules.specs.Rows.{get, passes, amend, amend_each, amend_all, remove, place, has_free}
 use Rattle.rules.proofs.Tests.{split, choose, if_same, alike, apart, swap}
 

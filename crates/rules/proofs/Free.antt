@@ -1,5 +1,6 @@
 -- A row is free once room has been made: a loop that wants a row ends when one is free or when nothing is left to turn to, and before
 -- that it has evicted an entry if there was one to evict.
+use Rattle.std.specs.Prelude.{if◌then◌else◌}
 use Prim.Native.Nat.{ℕ, ◌*◌}
 use mathlib.Core.Path.{◌≡◌, refl, sym, ap, subst, ◌∙◌}
 use mathlib.Core.Bool.{Bool, true, false, not, ◌&&◌, ◌||◌, true≢false}
@@ -15,7 +16,7 @@ use Rattle.settings.specs.declared.Mode.TheVariants.{Alone, Lead, Standby}
 use Rattle.rules.specs.Addresses.{elem, nearest, some_address}
 use Rattle.rules.specs.Allowed.{Sound}
 use Rattle.rules.specs.Cache.{Work}
-use Rattle.rules.specs.Entries.{if◌then◌else◌, is_listed, is_clean, cleaned}
+use Rattle.rules.specs.Entries.{is_listed, is_clean, cleaned}
 use Rattle.rules.specs.Loops.{While, met, none_left, again}
 use Rattle.rules.specs.Refusals.{no_row, may_evict}
 use Rattle.rules.specs.Resizing.{older}

@@ -1,5 +1,6 @@
 -- What is stored of "full" is what happened: since the counters last restarted, some making of room found held plus incoming above the maximum.
 -- And making room finds it at its start if it finds it at any turn.
+use Rattle.std.specs.Prelude.{if◌then◌else◌}
 use Prim.Native.Nat.{ℕ, zero, suc, ◌+◌, ◌≤◌}
 use mathlib.Core.Bool.{Bool, true, false, ◌&&◌, ◌||◌}
 use mathlib.Core.List.{List, [], ◌∷◌, ◌++◌}
@@ -22,7 +23,7 @@ use Rattle.rules.specs.declared.request.Request.TheVariants.{Insert, Protect, Re
 use Rattle.rules.specs.Addresses.{nearest}
 use Rattle.rules.specs.Allowed.{Sound}
 use Rattle.rules.specs.Cache.{Cache, Work, start, fresh, held, recency_list, touch}
-use Rattle.rules.specs.Entries.{if◌then◌else◌, is_held, cleaned, protected_for, released, changed_to}
+use Rattle.rules.specs.Entries.{is_held, cleaned, protected_for, released, changed_to}
 use Rattle.rules.specs.Full.{Event, restarted, room_made, found_since, full_after, making_room, flashing, counting, admitting, accessed, accessing, releasing, events_of, events_in}
 use Rattle.rules.specs.History.{past}
 use Rattle.rules.specs.Hosts.{accepted}

@@ -1,5 +1,6 @@
 -- What is written was dirty, what is evicted was clean and listed, and the orders account for all that a request did to the entries before
 -- its last step: each move gives its own order, and a load another.
+use Rattle.std.specs.Prelude.{if◌then◌else◌}
 use Prim.Native.Nat.{ℕ}
 use mathlib.Core.Path.{◌≡◌, refl, sym, ap, ap₂, subst, fun_ext, ◌∙◌}
 use mathlib.Core.Bool.{Bool, true, false, false≢true, true≢false}
@@ -19,7 +20,7 @@ use Rattle.rules.specs.declared.request.Request.TheVariants.{Insert, Protect, Re
 use Rattle.rules.specs.Addresses.{elem, twice}
 use Rattle.rules.specs.Allowed.{Sound}
 use Rattle.rules.specs.Cache.{Cache, Work, start, touch}
-use Rattle.rules.specs.Entries.{if◌then◌else◌, is_listed, cleaned, new_entry, joined, protected_for, released, changed_to}
+use Rattle.rules.specs.Entries.{is_listed, cleaned, new_entry, joined, protected_for, released, changed_to}
 use Rattle.rules.specs.Given.{standing, View, view_of, at, Given, nothing, write, evict, load, can_order, OrdersGiven}
 use Rattle.rules.specs.Hosts.{accepted}
 use Rattle.rules.specs.Refusals.{Call, tests, first_of, refusal_of}

@@ -1,5 +1,6 @@
 -- What no request changes, and what uses up a number. An accepted request leaves a sound cache with its threshold, rows and mode, and a
 -- refused one the cache as it was.
+use Rattle.std.specs.Prelude.{if◌then◌else◌}
 use Prim.Native.Nat.{ℕ, ◌+◌, ◌*◌, ◌≤◌}
 use mathlib.Core.Path.{◌≡◌, refl, ◌∙◌}
 use mathlib.Core.Bool.{true, false}
@@ -12,7 +13,7 @@ use Rattle.rules.specs.declared.request.Request.{Request}
 use Rattle.rules.specs.declared.request.Request.TheVariants.{Insert, Protect, Release, ReleaseChanged, Pin, Unpin, Resize, Discard, Flush, Sync, Take, Configure}
 use Rattle.rules.specs.Allowed.{Sound}
 use Rattle.rules.specs.Cache.{Cache, Work, start, touch}
-use Rattle.rules.specs.Entries.{if◌then◌else◌, protected_for, released, changed_to}
+use Rattle.rules.specs.Entries.{protected_for, released, changed_to}
 use Rattle.rules.specs.Hosts.{accepted}
 use Rattle.rules.specs.Kept.{Kept, number_after}
 use Rattle.rules.specs.Refusals.{Call, first_of, tests, refusal_of}

@@ -1,4 +1,5 @@
 -- Lists of addresses after a change.
+use Rattle.std.specs.Prelude.{if◌then◌else◌}
 use Prim.Native.Nat.{ℕ}
 use mathlib.Core.Path.{◌≡◌, refl, sym}
 use mathlib.Core.Bool.{Bool, true, false, ◌&&◌, ◌||◌}
@@ -6,7 +7,6 @@ use mathlib.Core.List.{List, [], ◌∷◌, ◌++◌}
 use lib.Dec.{eqb}
 use borrow.Author.Tests.{eq-eqb}
 use Rattle.rules.specs.Addresses.{elem, strike, twice}
-use Rattle.rules.specs.Entries.{if◌then◌else◌}
 use Rattle.rules.proofs.Tests.{split, choose, if_same, or_false, or_true, alike, apart, swap, neither}
 
 pub elem_append : (b : ℕ) (l m : List ℕ) → elem b (l ++ m) ≡ elem b l || elem b m

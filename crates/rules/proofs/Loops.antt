@@ -1,5 +1,6 @@
 -- The passes of making room and of sync are document 01's while loops: a pass goes on while its test holds, turns to the entry that the
 -- loop would turn to, and ends when none is left.
+use Rattle.std.specs.Prelude.{if◌then◌else◌}
 use Prim.Native.Nat.{ℕ, zero, suc, ◌+◌, ◌*◌, ◌≤◌}
 use mathlib.Core.Path.{◌≡◌, refl, sym, ap, subst, ◌∙◌}
 use mathlib.Core.Bool.{Bool, true, false, not, ◌&&◌, false≢true}
@@ -14,7 +15,7 @@ use Rattle.rules.specs.declared.entry.Row.{Row}
 use Rattle.rules.specs.Addresses.{elem, nearest}
 use Rattle.rules.specs.Allowed.{Sound}
 use Rattle.rules.specs.Cache.{Work}
-use Rattle.rules.specs.Entries.{if◌then◌else◌, cleaned}
+use Rattle.rules.specs.Entries.{cleaned}
 use Rattle.rules.specs.Loops.{While, met, none_left, again, dirty_turn}
 use Rattle.rules.specs.Room.{write_in_place, lacking, tail_turn, clean_turn, or_stay, turns, evict_by, write_dirty}
 use Rattle.rules.specs.Rows.{get, passes, amend, dirty_at}

@@ -1,5 +1,6 @@
 -- What moves keep: the threshold and the number of rows; a sound cache; what was absent; held bytes with what left in evict
 -- orders; and the orders that can still come, of which each move uses one.
+use Rattle.std.specs.Prelude.{if◌then◌else◌}
 use Prim.Native.Nat.{ℕ, ◌+◌, ◌*◌, ◌≤◌}
 use mathlib.Core.Path.{◌≡◌, refl, ap, ◌∙◌}
 use mathlib.Core.Bool.{Bool, true, false}
@@ -14,7 +15,7 @@ use Rattle.rules.specs.declared.entry.Row.TheVariants.{Free, Used}
 use Rattle.rules.specs.declared.order.Order.{Order}
 use Rattle.rules.specs.Allowed.{Sound, EntryAllowed}
 use Rattle.rules.specs.Cache.{Cache, Work, held}
-use Rattle.rules.specs.Entries.{if◌then◌else◌, is_listed, cleaned}
+use Rattle.rules.specs.Entries.{is_listed, cleaned}
 use Rattle.rules.specs.History.{evicted_bytes}
 use Rattle.rules.specs.Kept.{Kept}
 use Rattle.rules.specs.Resizing.{older}

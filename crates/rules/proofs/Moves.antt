@@ -1,5 +1,6 @@
 -- Making room, sync and age-out as moves: an entry of the recency list is evicted if it is clean, or written if it is dirty; and, at a flash
 -- or an epoch's end, figures and idle counts change. What holds of each move and goes on to the next holds of every pass.
+use Rattle.std.specs.Prelude.{if◌then◌else◌}
 use Prim.Native.Nat.{ℕ, zero, suc, ◌+◌, ◌*◌}
 use mathlib.Core.Path.{◌≡◌, refl, sym, ap, subst, ◌∙◌}
 use mathlib.Core.Bool.{Bool, true, false, not}
@@ -14,7 +15,7 @@ use Rattle.settings.specs.declared.Mode.TheVariants.{Alone, Lead, Standby}
 use Rattle.rules.specs.Addresses.{elem, strike, twice, nearest}
 use Rattle.rules.specs.Allowed.{Sound}
 use Rattle.rules.specs.Cache.{Cache, Work, with_rows, with_maximum, with_counters, with_exceeded}
-use Rattle.rules.specs.Entries.{if◌then◌else◌, is_listed, is_clean, cleaned}
+use Rattle.rules.specs.Entries.{is_listed, is_clean, cleaned}
 use Rattle.rules.specs.Resizing.{evict_aged, expel, aged_at, older}
 use Rattle.rules.specs.Room.{evict, write, write_in_place, lacking, share_missing, look_at_tail, tail_turn, clean_turn, or_stay, turns, evict_by, write_dirty, room_in, noticed, make_room}
 use Rattle.rules.specs.Rows.{get, passes, amend, amend_all, remove, clean_at, dirty_at}

@@ -1,5 +1,6 @@
 -- Totals by a key sum to held bytes, if each entry's key has a total: its bytes stand in that one. So do the eleven totals by idle count,
 -- which is at most 10.
+use Rattle.std.specs.Prelude.{if◌then◌else◌}
 use Prim.Native.Nat.{ℕ, zero, suc, ◌+◌, ◌≤◌, ◌<◌}
 use mathlib.Core.Path.{◌≡◌, refl, sym, ap, ◌∙◌}
 use mathlib.Core.Option.{some, some-ne-none}
@@ -13,7 +14,6 @@ use Rattle.rules.specs.declared.entry.Row.{Row}
 use Rattle.rules.specs.declared.entry.Row.TheVariants.{Free, Used}
 use Rattle.rules.specs.Allowed.{Allowed, Distinct}
 use Rattle.rules.specs.Cache.{Cache}
-use Rattle.rules.specs.Entries.{if◌then◌else◌}
 use Rattle.rules.specs.Reports.{totals_from, idle_count, report_of, sum_of}
 use Rattle.rules.specs.Rows.{get, total, held_bytes}
 use Rattle.rules.proofs.Tests.{split}

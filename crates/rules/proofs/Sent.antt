@@ -1,4 +1,5 @@
 -- The list that a flush or a sync sends: each address once, and of a dirty record. A write makes its record clean, so none is written twice.
+use Rattle.std.specs.Prelude.{if◌then◌else◌}
 use Prim.Native.Nat.{ℕ}
 use mathlib.Core.Path.{◌≡◌, refl, sym, ap, subst, ◌∙◌}
 use mathlib.Core.Bool.{Bool, true, false, ◌&&◌, ◌||◌, false≢true, true≢false}
@@ -12,7 +13,6 @@ use Rattle.rules.specs.declared.request.Request.{Request}
 use Rattle.rules.specs.Addresses.{elem, twice}
 use Rattle.rules.specs.Allowed.{Sound}
 use Rattle.rules.specs.Cache.{Cache, Work, start}
-use Rattle.rules.specs.Entries.{if◌then◌else◌}
 use Rattle.rules.specs.Ledger.{Sends, flush, sync, hear_list, names, is_in, dirty_size, ledger_of}
 use Rattle.rules.specs.Requests.{effect, writes_of}
 use Rattle.rules.specs.Room.{write_in_place, write_dirty, share_missing}

@@ -1,5 +1,6 @@
 -- The bytes missing of the clean share: 0 exactly where the test passes, so that the pass by the one is the pass by the other; and what a write
 -- leaves missing.
+use Rattle.std.specs.Prelude.{if◌then◌else◌}
 use Prim.Native.Nat.{ℕ, ◌+◌, ◌-◌, ◌≤◌}
 use mathlib.Core.Bool.{Bool, true, false, not, ◌&&◌}
 use mathlib.Core.List.{List, [], ◌∷◌}
@@ -14,7 +15,7 @@ use Rattle.rules.specs.declared.entry.Row.{Row}
 use Rattle.rules.specs.declared.request.Request.TheVariants.{Sync}
 use Rattle.rules.specs.Addresses.{elem, twice}
 use Rattle.rules.specs.Cache.{Cache, Work, start, recency_list, minimum_clean, amend_at, with_count}
-use Rattle.rules.specs.Entries.{if◌then◌else◌, is_clean, cleaned}
+use Rattle.rules.specs.Entries.{is_clean, cleaned}
 use Rattle.rules.specs.Requests.{effect, numbered}
 use Rattle.rules.specs.Room.{clean_bytes, unused_bytes, share_missing, tail_turn, evict_by, write_in_place, write_dirty, room_in}
 use Rattle.rules.specs.Rows.{get, passes, amend, dirty_at, size_at}

@@ -1,4 +1,5 @@
 -- A sound cache stays sound when an entry is touched, placed or cleaned: what is found at each address and what the list has change alike.
+use Rattle.std.specs.Prelude.{if◌then◌else◌}
 use Prim.Native.Nat.{ℕ, zero, suc}
 use mathlib.Core.Path.{◌≡◌, refl, ap, ◌∙◌}
 use mathlib.Core.Bool.{true, false}
@@ -17,7 +18,7 @@ use Rattle.settings.specs.declared.Mode.{Mode}
 use Rattle.rules.specs.Addresses.{elem, strike, twice}
 use Rattle.rules.specs.Allowed.{Sound, Distinct}
 use Rattle.rules.specs.Cache.{Cache, fresh, touch, with_rows}
-use Rattle.rules.specs.Entries.{if◌then◌else◌, is_listed, cleaned, new_entry, joined}
+use Rattle.rules.specs.Entries.{is_listed, cleaned, new_entry, joined}
 use Rattle.rules.specs.Rows.{get, passes, amend_each, place, has_free}
 use Rattle.rules.proofs.Found.{get_amend, get_place, distinct_amend, distinct_place, pass_map}
 use Rattle.rules.proofs.Lists.{elem_append, elem_if, elem_strike, twice_strike, twice_last}

@@ -1,7 +1,6 @@
 -- Lists of addresses.
-use Rattle.std.specs.Prelude.{ℕ, Bool, false, ◌||◌, List, [], ◌∷◌, eqb, leb}
+use Rattle.std.specs.Prelude.{ℕ, Bool, false, ◌||◌, List, [], ◌∷◌, eqb, leb, if◌then◌else◌}
 use Rattle.std.proofs.Math.Option.{Option, none, some}
-use Rattle.rules.specs.Entries.{if◌then◌else◌}
 
 unfoldable pub elem : ℕ → List ℕ → Bool
 elem a [] = false

@@ -1,5 +1,5 @@
 -- The state of a cache, and a cache changed in one respect.
-use Rattle.std.specs.Prelude.{ℕ, Bool, false, List, [], ◌∷◌, ◌++◌, ltb, replicate}
+use Rattle.std.specs.Prelude.{ℕ, Bool, false, List, [], ◌∷◌, ◌++◌, ltb, replicate, if◌then◌else◌}
 use Rattle.settings.specs.declared.Settings.{Settings}
 use Rattle.fraction.specs.Fraction.{size_product}
 use Rattle.rules.specs.declared.entry.Entry.{Entry}
@@ -9,7 +9,7 @@ use Rattle.rules.specs.declared.order.Kind.{Kind}
 use Rattle.rules.specs.declared.order.Order.{Order}
 use Rattle.settings.specs.declared.Mode.{Mode}
 use Rattle.rules.specs.Addresses.{strike}
-use Rattle.rules.specs.Entries.{if◌then◌else◌, is_listed}
+use Rattle.rules.specs.Entries.{is_listed}
 use Rattle.rules.specs.Rows.{get, passes, amend, held_bytes}
 
 pub record Cache : Type 0 where

@@ -1,11 +1,11 @@
 -- "Full" told by what happened in a run: counters that restarted, and room that was made. The latest stands first.
-use Rattle.std.specs.Prelude.{ℕ, ◌+◌, Bool, true, false, ◌&&◌, ◌||◌, List, [], ◌∷◌, leb, ltb}
+use Rattle.std.specs.Prelude.{ℕ, ◌+◌, Bool, true, false, ◌&&◌, ◌||◌, List, [], ◌∷◌, leb, ltb, if◌then◌else◌}
 use Rattle.fraction.specs.Fraction.{hit_rate}
 use Rattle.rules.specs.declared.request.Access.{Access}
 use Rattle.rules.specs.declared.request.Request.{Request}
 use Rattle.rules.specs.declared.request.Request.TheVariants.{Insert, Protect, Release, ReleaseChanged, Pin, Unpin, Resize, Discard, Flush, Sync, Take, Configure}
 use Rattle.rules.specs.Cache.{Cache, Work, start, held, touch}
-use Rattle.rules.specs.Entries.{if◌then◌else◌, is_held, protected_for, released, changed_to}
+use Rattle.rules.specs.Entries.{is_held, protected_for, released, changed_to}
 use Rattle.rules.specs.History.{past}
 use Rattle.rules.specs.Hosts.{accepted}
 use Rattle.rules.specs.Refusals.{Call}

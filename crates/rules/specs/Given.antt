@@ -1,5 +1,5 @@
 -- Orders as the host carries them out: what is written was dirty, what is evicted was clean and neither held nor pinned.
-use Rattle.std.specs.Prelude.{ℕ, ◌≡◌, Bool, true, false, List, [], ◌∷◌, eqb}
+use Rattle.std.specs.Prelude.{ℕ, ◌≡◌, Bool, true, false, List, [], ◌∷◌, eqb, if◌then◌else◌}
 use Rattle.std.proofs.Math.Option.{Option, none, some, map}
 use Rattle.rules.specs.declared.entry.Entry.{Entry}
 use Rattle.rules.specs.declared.order.Kind.{Kind}
@@ -7,7 +7,7 @@ use Rattle.rules.specs.declared.order.Order.{Order}
 use Rattle.rules.specs.declared.request.Request.{Request}
 use Rattle.rules.specs.declared.request.Request.TheVariants.{Insert, Protect, Release, ReleaseChanged, Pin, Unpin, Resize, Discard, Flush, Sync, Take, Configure}
 use Rattle.rules.specs.Cache.{Cache, touch}
-use Rattle.rules.specs.Entries.{if◌then◌else◌, is_listed, protected_for, released, changed_to}
+use Rattle.rules.specs.Entries.{is_listed, protected_for, released, changed_to}
 use Rattle.rules.specs.Requests.{Outcome, named}
 use Rattle.rules.specs.Rows.{get, is_here}
 

@@ -1,11 +1,10 @@
 -- The bytes that came and went over a run of requests.
-use Rattle.std.specs.Prelude.{ℕ, ◌+◌, ◌-◌, ◌≡◌, Bool, List, [], ◌∷◌}
+use Rattle.std.specs.Prelude.{ℕ, ◌+◌, ◌-◌, ◌≡◌, Bool, List, [], ◌∷◌, if◌then◌else◌}
 use Rattle.rules.specs.declared.order.Kind.{Kind}
 use Rattle.rules.specs.declared.order.Order.{Order}
 use Rattle.rules.specs.declared.request.Request.{Request}
 use Rattle.rules.specs.declared.request.Request.TheVariants.{Insert, Protect, Release, ReleaseChanged, Pin, Unpin, Resize, Discard, Flush, Sync, Take, Configure}
 use Rattle.rules.specs.Cache.{Cache, held}
-use Rattle.rules.specs.Entries.{if◌then◌else◌}
 use Rattle.rules.specs.Hosts.{accepted}
 use Rattle.rules.specs.Refusals.{Call}
 use Rattle.rules.specs.Requests.{Outcome, step}

@@ -1,9 +1,8 @@
 -- What no request changes, and what a refused one leaves.
-use Rattle.std.specs.Prelude.{ℕ, ◌≡◌, [], length}
+use Rattle.std.specs.Prelude.{ℕ, ◌≡◌, [], length, if◌then◌else◌}
 use Rattle.rules.specs.declared.request.Request.{Request}
 use Rattle.rules.specs.declared.request.Request.TheVariants.{Insert, Protect, Release, ReleaseChanged, Pin, Unpin, Resize, Discard, Flush, Sync, Take, Configure}
 use Rattle.rules.specs.Cache.{Cache}
-use Rattle.rules.specs.Entries.{if◌then◌else◌}
 use Rattle.rules.specs.Messages.{next_after}
 use Rattle.rules.specs.Refusals.{is_lead}
 use Rattle.rules.specs.Requests.{Outcome}

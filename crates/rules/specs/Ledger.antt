@@ -1,5 +1,5 @@
 -- The ledger of document 01: what shared changes and lists tell, and nothing else.
-use Rattle.std.specs.Prelude.{ℕ, ◌+◌, min, Bool, true, false, ◌||◌, List, [], ◌∷◌, map, eqb}
+use Rattle.std.specs.Prelude.{ℕ, ◌+◌, min, Bool, true, false, ◌||◌, List, [], ◌∷◌, map, eqb, if◌then◌else◌}
 use Rattle.std.proofs.Math.Option.{Option, none, some}
 use Rattle.settings.specs.declared.Settings.{Settings}
 use Rattle.rules.specs.declared.entry.Entry.{Entry}
@@ -7,7 +7,6 @@ use Rattle.rules.specs.declared.request.Access.{Access}
 use Rattle.rules.specs.declared.request.Request.{Request}
 use Rattle.rules.specs.declared.request.Request.TheVariants.{Insert, Protect, Release, ReleaseChanged, Pin, Unpin, Resize, Discard, Flush, Sync, Configure}
 use Rattle.rules.specs.Cache.{Cache}
-use Rattle.rules.specs.Entries.{if◌then◌else◌}
 use Rattle.rules.specs.Requests.{Outcome}
 use Rattle.rules.specs.Rows.{get}
 

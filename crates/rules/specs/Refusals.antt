@@ -1,5 +1,5 @@
 -- When a request is refused: for each request its tests, in the order of judging, which but for take is by rising refusal number.
-use Rattle.std.specs.Prelude.{ℕ, ◌+◌, ◌*◌, Bool, true, false, not, ◌&&◌, ◌||◌, List, [], ◌∷◌, eqb, ltb, length}
+use Rattle.std.specs.Prelude.{ℕ, ◌+◌, ◌*◌, Bool, true, false, not, ◌&&◌, ◌||◌, List, [], ◌∷◌, eqb, ltb, length, if◌then◌else◌}
 use Rattle.std.proofs.Math.Option.{Option, none, some}
 use Rattle.settings.specs.Validation.{first_bad}
 use Rattle.rules.specs.declared.answer.Refusal.{Refusal}
@@ -12,7 +12,7 @@ use Rattle.rules.specs.declared.request.Request.{Request}
 use Rattle.rules.specs.declared.request.Request.TheVariants.{Insert, Protect, Release, ReleaseChanged, Pin, Unpin, Resize, Discard, Flush, Sync, Take, Configure}
 use Rattle.rules.specs.Addresses.{elem, some_address, twice}
 use Rattle.rules.specs.Cache.{Cache, recency_list}
-use Rattle.rules.specs.Entries.{if◌then◌else◌, is_held, is_read, is_written, forbids}
+use Rattle.rules.specs.Entries.{is_held, is_read, is_written, forbids}
 use Rattle.rules.specs.Limits.{all_ones, most_size}
 use Rattle.rules.specs.Messages.{Message, read_message, is_malformed, is_early, number_in, addresses_in}
 use Rattle.rules.specs.Rows.{get, passes, is_here, clean_at, dirty_at, has_free, some_entry}

@@ -1,5 +1,5 @@
 -- What an accepted request does, and the step: one request answered.
-use Rattle.std.specs.Prelude.{ℕ, ◌+◌, ◌-◌, min, max, Bool, true, false, List, [], ◌∷◌, ◌++◌, map, length}
+use Rattle.std.specs.Prelude.{ℕ, ◌+◌, ◌-◌, min, max, Bool, true, false, List, [], ◌∷◌, ◌++◌, map, length, if◌then◌else◌}
 use Rattle.std.proofs.Math.Option.{Option, none, some}
 use Rattle.settings.specs.declared.Settings.{Settings}
 use Rattle.rules.specs.declared.answer.Answer.{Answer}
@@ -14,7 +14,7 @@ use Rattle.rules.specs.declared.request.Request.{Request}
 use Rattle.rules.specs.declared.request.Request.TheVariants.{Insert, Protect, Release, ReleaseChanged, Pin, Unpin, Resize, Discard, Flush, Sync, Take, Configure}
 use Rattle.rules.specs.Addresses.{strike}
 use Rattle.rules.specs.Cache.{Cache, Work, recency_list, start, give, with_rows, with_settings, with_maximum, with_count, with_next, amend_at, touch, restart}
-use Rattle.rules.specs.Entries.{if◌then◌else◌, is_held, cleaned, changed_to, with_pin, protected_for, released, new_entry, joined}
+use Rattle.rules.specs.Entries.{is_held, cleaned, changed_to, with_pin, protected_for, released, new_entry, joined}
 use Rattle.rules.specs.Limits.{count_stop}
 use Rattle.rules.specs.Messages.{read_message, addresses_in, next_after}
 use Rattle.rules.specs.Refusals.{Call, refusal_of, is_lead}

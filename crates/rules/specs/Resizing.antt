@@ -1,5 +1,5 @@
 -- How the maximum changes: the flash, and the end of an epoch.
-use Rattle.std.specs.Prelude.{ℕ, ◌+◌, ◌-◌, min, max, Bool, false, ◌&&◌, ◌||◌, List, [], ◌∷◌, leb, ltb, Float}
+use Rattle.std.specs.Prelude.{ℕ, ◌+◌, ◌-◌, min, max, Bool, false, ◌&&◌, ◌||◌, List, [], ◌∷◌, leb, ltb, Float, if◌then◌else◌}
 use Rattle.std.specs.Float.Ieee.{lt, eq}
 use Rattle.fraction.specs.Fraction.{decimal, size_product, hit_rate, reserve_quotient, exceeds_share}
 use Rattle.settings.specs.declared.Cap.{Cap}
@@ -16,7 +16,7 @@ use Rattle.rules.specs.declared.entry.Entry.{Entry}
 use Rattle.settings.specs.declared.Mode.{Mode}
 use Rattle.settings.specs.declared.Mode.TheVariants.{Alone, Lead, Standby}
 use Rattle.rules.specs.Cache.{Cache, Work, recency_list, with_rows, with_maximum, with_counters, restart, held}
-use Rattle.rules.specs.Entries.{if◌then◌else◌, with_idle}
+use Rattle.rules.specs.Entries.{with_idle}
 use Rattle.rules.specs.Limits.{most_idle}
 use Rattle.rules.specs.Room.{evict, write_in_place, make_room}
 use Rattle.rules.specs.Rows.{get, passes, amend_all, dirty_at}

@@ -1,12 +1,12 @@
 -- Making room for an incoming size x and, if one is wanted, a row; "for nothing" is size 0 and no row.
-use Rattle.std.specs.Prelude.{ℕ, zero, suc, ◌+◌, ◌-◌, ◌*◌, Bool, not, ◌&&◌, ◌||◌, List, [], ◌∷◌, ◌++◌, ltb, length}
+use Rattle.std.specs.Prelude.{ℕ, zero, suc, ◌+◌, ◌-◌, ◌*◌, Bool, not, ◌&&◌, ◌||◌, List, [], ◌∷◌, ◌++◌, ltb, length, if◌then◌else◌}
 use Rattle.std.proofs.Math.Option.{Option, none, some, map}
 use Rattle.rules.specs.declared.order.Kind.{Kind}
 use Rattle.settings.specs.declared.Mode.{Mode}
 use Rattle.settings.specs.declared.Mode.TheVariants.{Alone, Lead, Standby}
 use Rattle.rules.specs.Addresses.{strike, nearest}
 use Rattle.rules.specs.Cache.{Cache, Work, recency_list, with_rows, with_exceeded, held, minimum_clean, give}
-use Rattle.rules.specs.Entries.{if◌then◌else◌, cleaned}
+use Rattle.rules.specs.Entries.{cleaned}
 use Rattle.rules.specs.Rows.{amend, remove, has_free, clean_at, dirty_at, size_at}
 use Rattle.rules.specs.declared.entry.Row.{Row}
 

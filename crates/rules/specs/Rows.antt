@@ -1,11 +1,11 @@
 -- The rows of a cache: entries found, placed, changed and removed by address, and sums over them.
-use Rattle.std.specs.Prelude.{ℕ, ◌+◌, Bool, true, false, ◌||◌, List, [], ◌∷◌, eqb}
+use Rattle.std.specs.Prelude.{ℕ, ◌+◌, Bool, true, false, ◌||◌, List, [], ◌∷◌, eqb, if◌then◌else◌}
 use Rattle.std.proofs.Math.Option.{Option, none, some, map, get_or}
 use Rattle.rules.specs.declared.entry.Entry.{Entry}
 use Rattle.rules.specs.declared.entry.Row.{Row}
 use Rattle.rules.specs.declared.entry.Row.TheVariants.{Free, Used}
 use Rattle.rules.specs.Addresses.{insert_rising}
-use Rattle.rules.specs.Entries.{if◌then◌else◌, is_clean}
+use Rattle.rules.specs.Entries.{is_clean}
 
 -- ---- by address
 

@@ -1,7 +1,6 @@
 -- Document 01's test of the clean share, which says yes or no, and the pass by it.
-use Rattle.std.specs.Prelude.{ℕ, ◌+◌, Bool, not, ◌&&◌, List, [], ◌∷◌, leb}
+use Rattle.std.specs.Prelude.{ℕ, ◌+◌, Bool, not, ◌&&◌, List, [], ◌∷◌, leb, if◌then◌else◌}
 use Rattle.rules.specs.Cache.{Cache, Work, recency_list, minimum_clean}
-use Rattle.rules.specs.Entries.{if◌then◌else◌}
 use Rattle.rules.specs.Room.{clean_bytes, unused_bytes, write_in_place}
 use Rattle.rules.specs.Rows.{dirty_at}
 

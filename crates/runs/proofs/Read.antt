@@ -1,4 +1,5 @@
 -- Orders read back from the words that they were written to.
+use Rattle.std.specs.Prelude.{if◌then◌else◌}
 use Prim.Native.Nat.{ℕ, ◌+◌, ◌*◌}
 use mathlib.Core.Bool.{not, ◌&&◌}
 use mathlib.Core.List.{List, [], ◌∷◌, ◌++◌, map}
@@ -7,7 +8,6 @@ use lib.Dec.{eqb, ltb}
 use lib.ListN.{length, drop}
 use Rattle.rules.proofs.Tests.{choose}
 use Rattle.rules.specs.Cache.{Cache, Work, start, give}
-use Rattle.rules.specs.Entries.{if◌then◌else◌}
 use Rattle.rules.specs.History.{evicted_by, evicted_bytes}
 use Rattle.rules.specs.Ledger.{Sends, flush, sync}
 use Rattle.rules.specs.Requests.{effect, writes_of}

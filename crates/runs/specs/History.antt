@@ -1,11 +1,10 @@
 -- The bytes that came and went over a run of requests on a table.
-use Rattle.std.specs.Prelude.{ℕ, zero, suc, ◌+◌, ◌-◌, ◌≡◌, List, [], ◌∷◌, eqb, length, get_or, drop}
+use Rattle.std.specs.Prelude.{ℕ, zero, suc, ◌+◌, ◌-◌, ◌≡◌, List, [], ◌∷◌, eqb, length, get_or, drop, if◌then◌else◌}
 use Rattle.rules.specs.declared.answer.Answer.TheVariants.{Accepted}
 use Rattle.rules.specs.declared.order.Kind.TheVariants.{Evict}
 use Rattle.rules.specs.declared.request.Request.{Request}
 use Rattle.rules.specs.Answers.{answer_orders}
 use Rattle.rules.specs.Cache.{held}
-use Rattle.rules.specs.Entries.{if◌then◌else◌}
 use Rattle.rules.specs.History.{brought_in, new_size, old_size, plus, thrown_away}
 use Rattle.rules.specs.Hosts.{asking}
 use Rattle.rules.specs.Refusals.{Call}

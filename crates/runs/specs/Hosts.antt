@@ -1,5 +1,5 @@
 -- A lead and a standby on their tables: the runs that demand 3 speaks of, and the demand, over the entry points on words.
-use Rattle.std.specs.Prelude.{ℕ, zero, suc, ◌+◌, ◌≡◌, Bool, true, false, not, ◌&&◌, List, [], ◌∷◌, ◌++◌, eqb, ltb, get_or, drop}
+use Rattle.std.specs.Prelude.{ℕ, zero, suc, ◌+◌, ◌≡◌, Bool, true, false, not, ◌&&◌, List, [], ◌∷◌, ◌++◌, eqb, ltb, get_or, drop, if◌then◌else◌}
 use Rattle.std.proofs.Math.Option.{Option, none, some}
 use Rattle.settings.specs.declared.Settings.{Settings}
 use Rattle.settings_words.specs.FloatsFit.{FloatsFit}
@@ -10,7 +10,6 @@ use Rattle.settings.specs.declared.Mode.TheVariants.{Lead, Standby}
 use Rattle.rules.specs.declared.request.Request.{Request}
 use Rattle.rules.specs.declared.request.Request.TheVariants.{Insert, Protect, Release, ReleaseChanged, Pin, Unpin, Resize, Discard, Flush, Sync, Take, Configure}
 use Rattle.rules.specs.Answers.{answer_orders}
-use Rattle.rules.specs.Entries.{if◌then◌else◌}
 use Rattle.rules.specs.Hosts.{is_accepted, Pending, settled, change, sent, heard, hear_message}
 use Rattle.rules.specs.Ledger.{Ledger, blank, Shared, Local, Sends}
 use Rattle.rules.specs.Messages.{Words, message_of}

@@ -1,10 +1,9 @@
 -- The seven functions over numbers: what each answers and leaves, on any input.
-use Rattle.std.specs.Prelude.{ℕ, List, leb, length}
+use Rattle.std.specs.Prelude.{ℕ, List, leb, length, if◌then◌else◌}
 use Rattle.std.proofs.Math.Option.{Option, get_or}
 use Rattle.settings.specs.declared.Settings.{Settings}
 use Rattle.rules.specs.Answers.{verdict_number}
 use Rattle.rules.specs.Cache.{fresh}
-use Rattle.rules.specs.Entries.{if◌then◌else◌}
 use Rattle.rules.specs.Opening.{refusal_of_opening}
 use Rattle.rules.specs.declared.answer.Answer.{Answer}
 use Rattle.rules.specs.declared.answer.Answer.TheVariants.{Refused}

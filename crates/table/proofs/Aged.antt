@@ -1,4 +1,5 @@
 -- The pass that raises all idle counts: after i rows, those are older and the others as they were.
+use Rattle.std.specs.Prelude.{if◌then◌else◌}
 use Prim.Native.Nat.{ℕ, zero, suc, ◌+◌, ◌<◌, ◌≤◌, min}
 use mathlib.Core.List.{List, [], ◌∷◌}
 use mathlib.Core.Option.{none}
@@ -14,7 +15,7 @@ use Rattle.rules.specs.declared.entry.Row.TheVariants.{Free, Used}
 use Rattle.rules.specs.declared.entry.Row.{Row}
 use Rattle.rules.specs.Allowed.{Distinct, EntryAllowed}
 use Rattle.rules.specs.Cache.{Cache, with_rows}
-use Rattle.rules.specs.Entries.{if◌then◌else◌, with_idle}
+use Rattle.rules.specs.Entries.{with_idle}
 use Rattle.rules.specs.Limits.{most_idle}
 use Rattle.rules.specs.Resizing.{older}
 use Rattle.rules.specs.Rows.{get, amend_all}

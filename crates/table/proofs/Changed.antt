@@ -1,4 +1,5 @@
 -- What each change leaves of a table that holds a cache: the words of the changed cache, which is steady again.
+use Rattle.std.specs.Prelude.{if◌then◌else◌}
 use Prim.Native.Nat.{ℕ, ◌+◌, ◌<◌}
 use mathlib.Core.Bool.{Bool, true, false, false≢true}
 use mathlib.Core.List.{List, [], ◌∷◌, ◌++◌, append-nil}
@@ -14,7 +15,7 @@ use Rattle.rules.specs.declared.entry.Row.{Row}
 use Rattle.rules.specs.Addresses.{elem, strike, twice}
 use Rattle.rules.specs.Allowed.{EntryAllowed, Sound}
 use Rattle.rules.specs.Cache.{Cache, with_rows, amend_at, touch}
-use Rattle.rules.specs.Entries.{if◌then◌else◌, is_listed}
+use Rattle.rules.specs.Entries.{is_listed}
 use Rattle.rules.specs.Rows.{get, passes, amend, remove, is_here}
 use Rattle.rules.proofs.Fit.{Fit, entries_fit, fit_entries, fit_remove, fit_amend}
 use Rattle.rules.proofs.Found.{present, length_remove, length_amend}

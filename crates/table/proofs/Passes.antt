@@ -1,4 +1,5 @@
 -- Passes over the rows and over the recency list: what is still to do from a place on, and what a row's words say.
+use Rattle.std.specs.Prelude.{if◌then◌else◌}
 use Prim.Native.Nat.{ℕ, suc, ◌+◌, ◌*◌, ◌<◌, ◌≤◌}
 use mathlib.Core.Bool.{Bool, true, false, not, ◌||◌}
 use mathlib.Core.List.{List, [], ◌∷◌}
@@ -18,7 +19,7 @@ use Rattle.rules.specs.declared.entry.Row.TheVariants.{Free, Used}
 use Rattle.rules.specs.declared.entry.Row.{Row}
 use Rattle.rules.specs.Addresses.{some_address}
 use Rattle.rules.specs.Allowed.{HoldAllowed}
-use Rattle.rules.specs.Entries.{if◌then◌else◌, is_held}
+use Rattle.rules.specs.Entries.{is_held}
 use Rattle.rules.specs.Limits.{most_size}
 use Rattle.rules.specs.Room.{clean_bytes}
 use Rattle.rules.specs.Rows.{some_entry, total, clean_at, size_at}

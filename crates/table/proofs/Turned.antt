@@ -1,4 +1,5 @@
 -- An entry is written: it stays where it stands, or the tail goes to the head.
+use Rattle.std.specs.Prelude.{if◌then◌else◌}
 use Prim.Native.Nat.{ℕ, ◌+◌, ◌-◌, ◌<◌}
 use mathlib.Core.Bool.{Bool, true, false}
 use mathlib.Core.List.{List, [], ◌∷◌, ◌++◌}
@@ -12,7 +13,7 @@ use Rattle.rules.specs.declared.entry.Row.{Row}
 use Rattle.rules.specs.Addresses.{strike, twice}
 use Rattle.rules.specs.Allowed.{Distinct}
 use Rattle.rules.specs.Cache.{Cache, with_rows, amend_at, touch}
-use Rattle.rules.specs.Entries.{if◌then◌else◌, is_listed, cleaned}
+use Rattle.rules.specs.Entries.{is_listed, cleaned}
 use Rattle.rules.specs.Rows.{get, passes, amend, is_here}
 use Rattle.rules.proofs.Fit.{fit_amend, clean_allowed}
 use Rattle.rules.proofs.Found.{present, length_amend}

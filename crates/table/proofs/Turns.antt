@@ -1,4 +1,5 @@
 -- One turn of each pass over a good table, in the code's own terms.
+use Rattle.std.specs.Prelude.{if◌then◌else◌}
 use Prim.Native.Nat.{ℕ, suc, ◌+◌, ◌*◌, ◌<◌, ◌≤◌}
 use mathlib.Core.Bool.{true, false, not}
 use mathlib.Core.List.{List}
@@ -12,7 +13,7 @@ use Rattle.settings_words.specs.Words.{flag_of}
 use Rattle.rules.specs.declared.entry.Entry.{Entry}
 use Rattle.rules.specs.declared.entry.Row.TheVariants.{Free}
 use Rattle.rules.specs.Addresses.{some_address}
-use Rattle.rules.specs.Entries.{if◌then◌else◌, is_held, is_clean}
+use Rattle.rules.specs.Entries.{is_held, is_clean}
 use Rattle.rules.specs.Limits.{most_size, most_rows}
 use Rattle.rules.specs.Rows.{get, passes, some_entry, total, held_bytes, clean_at, dirty_at}
 use Rattle.rules.proofs.Moves.{clean_of}

@@ -1,12 +1,12 @@
 -- What the functions tell, and the cache that a change leaves.
-use Rattle.std.specs.Prelude.{ℕ, ◌+◌, min, Bool, true, false, List, [], ◌∷◌, ◌++◌, ◌≡◌, eqb, length, get_or, set, drop}
+use Rattle.std.specs.Prelude.{ℕ, ◌+◌, min, Bool, true, false, List, [], ◌∷◌, ◌++◌, ◌≡◌, eqb, length, get_or, set, drop, if◌then◌else◌}
 use Rattle.std.proofs.Math.Option.{some}
 use Rattle.rules.specs.declared.entry.Entry.{Entry}
 use Rattle.rules.specs.declared.entry.Row.{Row}
 use Rattle.rules.specs.declared.order.Kind.{Kind}
 use Rattle.rules.specs.Addresses.{strike}
 use Rattle.rules.specs.Cache.{Cache, with_rows, amend_at}
-use Rattle.rules.specs.Entries.{if◌then◌else◌, is_listed, cleaned}
+use Rattle.rules.specs.Entries.{is_listed, cleaned}
 use Rattle.rules.specs.Limits.{most_idle}
 use Rattle.rules.specs.Resizing.{older}
 use Rattle.rules.specs.Rows.{get, amend, amend_all, remove, place, is_here, clean_at, size_at}

@@ -1,8 +1,7 @@
 -- A taken list.
-use Rattle.std.specs.Prelude.{ℕ, ◌<◌, ◌≤◌, Bool, false, not, ◌||◌, List, ◌≡◌, length, get_or}
+use Rattle.std.specs.Prelude.{ℕ, ◌<◌, ◌≤◌, Bool, false, not, ◌||◌, List, ◌≡◌, length, get_or, if◌then◌else◌}
 use Rattle.rules.specs.declared.entry.Row.{Row}
 use Rattle.rules.specs.Addresses.{some_address, twice}
-use Rattle.rules.specs.Entries.{if◌then◌else◌}
 use Rattle.rules.specs.Rows.{dirty_at}
 use Rattle.rules.specs.Limits.{most_rows}
 use Rattle.layout.specs.Picture.{row_number}

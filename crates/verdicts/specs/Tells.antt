@@ -1,7 +1,6 @@
 -- A verdict, test by test.
-use Rattle.std.specs.Prelude.{Bool, List, ◌≡◌}
+use Rattle.std.specs.Prelude.{Bool, List, ◌≡◌, if◌then◌else◌}
 use Rattle.rules.specs.declared.answer.Refusal.{Refusal}
-use Rattle.rules.specs.Entries.{if◌then◌else◌}
 use Rattle.rules.specs.Refusals.{Test, first_of}
 use Rattle.rules.specs.Answers.{verdict_of}
 use Rattle.rules.specs.declared.answer.Verdict.{Verdict}
