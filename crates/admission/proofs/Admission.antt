@@ -2,7 +2,7 @@
 use Prim.Native.Nat.{ℕ, ◌+◌}
 use mathlib.Core.Bool.{true, false}
 use mathlib.Core.List.{List}
-use mathlib.Core.Option.{none}
+use Rattle.std.specs.Prelude.{None}
 use mathlib.Core.Path.{◌≡◌, refl, sym, ap, ◌∙◌}
 use lib.ListN.{length}
 use native.Mathlib.Omega.{arith}
@@ -42,7 +42,7 @@ module _ (x : ℕ) (c : Cache) {table₁ rest : List ℕ} (h : Holds table₁ (f
 
 -- ---- what the table then has: a free row, no entry at the address, and the orders that can still come
 
-module _ (c : Cache) (a s : ℕ) (k : Sound c) (n : get c.rows a ≡ none) (f : no_row c ≡ false) {table rest lent words : List ℕ} {given : ℕ}
+module _ (c : Cache) (a s : ℕ) (k : Sound c) (n : get c.rows a ≡ None) (f : no_row c ≡ false) {table rest lent words : List ℕ} {given : ℕ}
     (d : Did (make_room s true (start (flashed s c))) rest table 0 lent words given) where
   ready_for : Ready a s c
   ready_for = ready a s c k (ap (passes (λ e. true)) n) f
@@ -53,7 +53,7 @@ module _ (c : Cache) (a s : ℕ) (k : Sound c) (n : get c.rows a ≡ none) (f : 
   pub admitted_free : has_free (cache_in table).rows ≡ true
   admitted_free = rw (holds_cache d.holds) ready_for.free
 
-  pub admitted_absent : get (cache_in table).rows a ≡ none
+  pub admitted_absent : get (cache_in table).rows a ≡ None
   admitted_absent = rw (holds_cache d.holds) ready_for.absent
 
   pub admitted_left : given + left (cache_in table) ≡ left c

@@ -15,7 +15,7 @@ ghost use Rattle.table.specs.Asked.{GoodRows};
 
 use reason_rules::Change;
 use reasons::runs::RoomRuns;
-use room::{Held, make_room};
+use room::make_room;
 
 #[derive(Clone, Copy)]
 pub struct Admitted {
@@ -23,7 +23,7 @@ pub struct Admitted {
     pub given: usize,
     pub runs: RoomRuns,
     // Of the maximum, by the flash.
-    pub change: Change,
+    pub change: Option<Change>,
 }
 
 // The flash of an incoming size, and then room for it and for a row.
@@ -33,11 +33,10 @@ pub fn admit(table: &mut [u64], orders: &mut [u64], rows: usize, size: u64) -> A
     ensures named { (room_runs result.runs ≡ room_reasons size true (start (flashed size (cache_in table.old)))) × (result.change ≡ change_of (flash_change size (cache_in table.old))) }
 {
     let change = flash::flash(table, rows, size);
-    let made = make_room(table, orders, rows, size, true, 0, Held::Unknown);
-    let runs = made.runs;
+    let made = make_room(table, orders, rows, size, true, 0, None);
     Admitted {
         given: made.given,
-        runs,
+        runs: made.runs,
         change,
     }
 }

@@ -2,19 +2,18 @@
 use Prim.Native.Nat.{ℕ, suc, ◌+◌, ◌*◌, ◌-◌, ◌<◌, ◌≤◌}
 use mathlib.Core.Bool.{true, false}
 use mathlib.Core.List.{List, [], ◌∷◌, ◌++◌, append_assoc, append-nil}
-use mathlib.Core.Option.{Option}
+use Rattle.std.specs.Prelude.{Option, Ok, Err}
 use mathlib.Core.Path.{◌≡◌, refl, sym, ap, subst, ◌∙◌}
 use native.Mathlib.Nat.{add-zero}
 use native.Mathlib.Numerals.{add-one}
 use native.Mathlib.Omega.{arith}
 use lib.ListN.{length, get_or, take, drop, set, take-append-drop, length-append, length-drop, length-set, drop_of_length-le}
 use lib.Seq.{length-take-le, take_all, take-append-add, drop-append-add, take-suc-set, drop-set-lt, drop-drop, get_or-drop}
-use borrow.Author.Tests.{lt-ltb, le-ltb, eq-eqb, ne_eqb}
+use lib.Dec.{eqb}
+use borrow.Author.Tests.{lt-ltb, le-ltb}
 use borrow.Rule.Slice.PartMut.{put_mid}
-use Rattle.rules.specs.declared.answer.Answer.{Answer}
+use Rattle.rules.specs.Types.{Answer, Verdict}
 use Rattle.rules.specs.declared.answer.Refusal.TheVariants as refusal
-use Rattle.rules.specs.declared.answer.Verdict.{Verdict}
-use Rattle.rules.specs.declared.answer.Verdict.TheVariants as verdict
 use Rattle.rules.specs.declared.request.Request.{Request}
 use Rattle.rules.specs.Answers.{answer_number, answer_orders}
 use Rattle.judge.specs.Verdict.{judge_words}
@@ -23,7 +22,7 @@ use Rattle.numbers.specs.Answers.{answer_numbers}
 use Rattle.numbers.specs.Meanings.{asked, plain_of}
 use Rattle.numbers.specs.declared.raw.RawAnswer.{RawAnswer}
 use Rattle.room.specs.Held.{HeldIs}
-use Rattle.room.specs.declared.held.Held.{Held}
+use Rattle.room.specs.Types.{Held}
 use Rattle.layout.specs.Picture.{cache_in}
 use Rattle.batch.proofs.Quiet.{held_kept}
 use Rattle.batch.specs.Known.{kept_for}
@@ -33,7 +32,7 @@ use Rattle.batch.specs.Batch.{After, after, done_with, lacks_words, stopped, bef
 -- ---- judging
 
 module _ (table orders requests answers : List ℕ) where
-  pub batch_damaged : judge_words table ≡ false → stopped (verdict.Refused refusal.Table) table orders answers ≡ batch_words table orders requests answers
+  pub batch_damaged : judge_words table ≡ false → stopped (Err refusal.Table) table orders answers ≡ batch_words table orders requests answers
   unfolding batch_words
   batch_damaged v = rw v
 
@@ -47,7 +46,7 @@ module _ (table orders requests answers : List ℕ) where
 abbrev pub first : List ℕ → List ℕ → List ℕ → Left
 first l table orders = done_with (asked (plain_of (get_or l 0 0) (get_or l 1 0) (get_or l 2 0))) table orders
 
-pub no_request : (l table orders answers : List ℕ) → length l < 3 → one_by_one l table orders answers ≡ stopped verdict.Accepted table orders answers
+pub no_request : (l table orders answers : List ℕ) → length l < 3 → one_by_one l table orders answers ≡ stopped (Ok tt) table orders answers
 unfolding one_by_one
 no_request [] table orders answers h = refl
 no_request (k ∷ []) table orders answers h = refl
@@ -55,22 +54,22 @@ no_request (k ∷ a ∷ []) table orders answers h = refl
 no_request (k ∷ a ∷ s ∷ l) table orders answers h = absurd (omega arith)
 
 module _ (l table orders answers : List ℕ) (h : 3 ≤ length l) where
-  pub no_answer : length answers < 2 → one_by_one l table orders answers ≡ stopped (verdict.Refused refusal.OrderWords) table orders answers
+  pub no_answer : length answers < 2 → one_by_one l table orders answers ≡ stopped (Err refusal.OrderWords) table orders answers
   unfolding one_by_one
   no_answer few = go l h
     where
-      go : (l : List ℕ) → 3 ≤ length l → one_by_one l table orders answers ≡ stopped (verdict.Refused refusal.OrderWords) table orders answers
+      go : (l : List ℕ) → 3 ≤ length l → one_by_one l table orders answers ≡ stopped (Err refusal.OrderWords) table orders answers
       go [] h = absurd (omega arith)
       go (k ∷ []) h = absurd (omega arith)
       go (k ∷ a ∷ []) h = absurd (omega arith)
       go (k ∷ a ∷ s ∷ l) h = rw (lt-ltb (length answers) 2 few)
 
   module _ (enough : 2 ≤ length answers) where
-    pub no_words : lacks_words (first l table orders) ≡ true → one_by_one l table orders answers ≡ stopped (verdict.Refused refusal.OrderWords) table orders answers
+    pub no_words : lacks_words (first l table orders) ≡ true → one_by_one l table orders answers ≡ stopped (Err refusal.OrderWords) table orders answers
     unfolding one_by_one
     no_words = go l h
       where
-        go : (l : List ℕ) → 3 ≤ length l → lacks_words (first l table orders) ≡ true → one_by_one l table orders answers ≡ stopped (verdict.Refused refusal.OrderWords) table orders answers
+        go : (l : List ℕ) → 3 ≤ length l → lacks_words (first l table orders) ≡ true → one_by_one l table orders answers ≡ stopped (Err refusal.OrderWords) table orders answers
         go [] h e = absurd (omega arith)
         go (k ∷ []) h e = absurd (omega arith)
         go (k ∷ a ∷ []) h e = absurd (omega arith)
@@ -198,7 +197,7 @@ put_rest l m n = rw (drop_of_length-le (drop n l) {i = length l - n} (let e = le
 module _ {whole : After} {requests table orders answers : List ℕ} {d g : ℕ} (k : Doing whole requests table orders answers d g)
     (h : d * 3 + 3 ≤ length requests) (i : d * 2 + 2 ≤ length answers) {r : Answer} {t o : List ℕ}
     (e : left r t o ≡ first (take (length requests - d * 3) (drop (d * 3) requests)) table (take (length orders - g * 3) (drop (g * 3) orders)))
-    (len : length o ≡ length (take (length orders - g * 3) (drop (g * 3) orders))) {w : RawAnswer} (as-told : w ≡ answer_numbers r) where
+    (len : length o ≡ length (take (length orders - g * 3) (drop (g * 3) orders))) where
   abbrev words : List ℕ
   words = drop (d * 3) requests
 
@@ -218,18 +217,18 @@ module _ {whole : After} {requests table orders answers : List ℕ} {d g : ℕ} 
   enough = let l = length-drop (d * 2) answers in omega arith
 
   -- it lacks order words, so nothing has changed
-  pub one_lacks : w.number ≡ 2 → after (record { verdict = verdict.Refused refusal.OrderWords; done = d; orders = g }) t (put_mid (g * 3) (length orders - g * 3) orders o) answers ≡ whole
+  pub one_lacks : eqb (answer_number r) 2 ≡ true → after (record { verdict = Err refusal.OrderWords; done = d; orders = g }) t (put_mid (g * 3) (length orders - g * 3) orders o) answers ≡ whole
   one_lacks n =
       let x = first words table (drop (g * 3) orders) in
-      let lacks : lacks_words x ≡ true = ap lacks_words (sym done_is) ∙ eq-eqb (answer_number r) 2 (sym (ap (λ (u : RawAnswer). u.number) as-told) ∙ n) in
+      let lacks : lacks_words x ≡ true = ap lacks_words (sym done_is) ∙ n in
       let same = done_is ∙ lacking_same table (drop (g * 3) orders) k.passes named lacks in
       rw (put_rest orders o (g * 3), ap (λ (y : Left). y.table) same, ap (λ (y : Left). y.orders) same, take-append-drop (g * 3) orders)
-      (doing_end k (verdict.Refused refusal.OrderWords) (no_words words table (drop (g * 3) orders) (drop (d * 2) answers) long enough lacks))
+      (doing_end k (Err refusal.OrderWords) (no_words words table (drop (g * 3) orders) (drop (d * 2) answers) long enough lacks))
 
   -- else it is done
-  pub one_done : (w.number ≡ 2 → ⊥) → Doing whole requests t (put_mid (g * 3) (length orders - g * 3) orders o) (set (set answers (d * 2) w.number) (d * 2 + 1) w.orders) (d + 1) (g + w.orders)
-  one_done n =
-      let goes : lacks_words (first words table (drop (g * 3) orders)) ≡ false = ap lacks_words (sym done_is) ∙ ne_eqb (answer_number r) 2 (λ q. n (ap (λ (u : RawAnswer). u.number) as-told ∙ q)) in
+  pub one_done : {w : RawAnswer} → w ≡ answer_numbers r → eqb (answer_number r) 2 ≡ false → Doing whole requests t (put_mid (g * 3) (length orders - g * 3) orders o) (set (set answers (d * 2) w.number) (d * 2 + 1) w.orders) (d + 1) (g + w.orders)
+  one_done as-told n =
+      let goes : lacks_words (first words table (drop (g * 3) orders)) ≡ false = ap lacks_words (sym done_is) ∙ n in
       rw (put_rest orders o (g * 3), as-told)
       (subst
       (λ (x : Left). Doing whole requests x.table (take (g * 3) orders ++ x.orders) (set (set answers (d * 2) (answer_number x.answer)) (d * 2 + 1) (answer_orders x.answer)) (d + 1) (g + answer_orders x.answer))
@@ -238,8 +237,8 @@ module _ {whole : After} {requests table orders answers : List ℕ} {d g : ℕ} 
       (orders_fit table (drop (g * 3) orders) k.passes named same_orders) goes))
 
   -- and what is kept of the held bytes holds
-  pub held_next : (n : ℕ) → n ≡ get_or requests (d * 3) 0 → (known : Held) → HeldIs known (cache_in table) → (next : Held) → next ≡ kept_for n w.orders known → HeldIs next (cache_in t)
-  held_next n named-is known h next e =
+  pub held_next : {w : RawAnswer} → w ≡ answer_numbers r → (n : ℕ) → n ≡ get_or requests (d * 3) 0 → (known : Held) → HeldIs known (cache_in table) → (next : Held) → next ≡ kept_for n w.orders known → HeldIs next (cache_in t)
+  held_next {w} as-told n named-is known h next e =
       let same : get_or words 0 0 ≡ n = get_or-drop (d * 3) requests 0 0 ∙ ap (λ (m : ℕ). get_or requests m 0) (add-zero (d * 3)) ∙ sym named-is in
       subst (λ (x : Held). HeldIs x (cache_in t)) (sym e)
       (subst (λ (x : Left). HeldIs (kept_for n w.orders known) (cache_in x.table)) (sym done_is)

@@ -2,7 +2,7 @@
 -- demand 3, and any batch goes on with a history of held bytes.
 use Prim.Native.Nat.{ℕ, ◌*◌}
 use mathlib.Core.Path.{◌≡◌, refl, sym, ap, subst}
-use mathlib.Core.Option.{Option, none, some}
+use Rattle.std.specs.Prelude.{Option, None, Some}
 use mathlib.Core.List.{List, [], ◌∷◌, ◌++◌}
 use lib.Dec.{ltb}
 use lib.ListN.{length, drop}
@@ -27,9 +27,9 @@ abbrev Keeps : (Request → Type 0) → (List ℕ → Type 0) → Type 0
 Keeps Q P = (ws os : List ℕ) (r : Request) → Q r → FloatsOf r → P ws → P (step_words ws os [] r).table
 
 module _ {Q : Request → Type 0} {P : List ℕ → Type 0} (keeps : Keeps Q P) where
-  one_keeps : (ws os : List ℕ) (o : Option Request) → ((r : Request) → o ≡ some r → Q r) → ((r : Request) → o ≡ some r → FloatsOf r) → P ws → P (done_with (asked o) ws os).table
-  one_keeps ws os none q f p = p
-  one_keeps ws os (some r) q f p = keeps ws os r (q r refl) (f r refl) p
+  one_keeps : (ws os : List ℕ) (o : Option Request) → ((r : Request) → o ≡ Some r → Q r) → ((r : Request) → o ≡ Some r → FloatsOf r) → P ws → P (done_with (asked o) ws os).table
+  one_keeps ws os None q f p = p
+  one_keeps ws os (Some r) q f p = keeps ws os r (q r refl) (f r refl) p
 
   each_keeps : (requests table orders answers : List ℕ) → Named Q requests → P table → P (one_by_one requests table orders answers).table
   unfolding one_by_one

@@ -1,9 +1,10 @@
 -- What a request of a batch leaves: a table that passes, and orders that fit in the words lent for them.
-use Prim.Native.Nat.{ℕ, ◌*◌, ◌-◌, ◌≤◌}
+use Prim.Native.Nat.{ℕ, ◌*◌, ◌≤◌}
 use mathlib.Core.Bool.{true, false≢true}
-use mathlib.Core.Option.{Option, none, some, some-ne-none}
+use Rattle.std.proofs.lemmas.Option.{none-some}
+use Rattle.std.specs.Prelude.{Option, None, Some}
 use mathlib.Core.List.{List, [], ◌∷◌}
-use mathlib.Core.Path.{◌≡◌, refl, sym, subst}
+use mathlib.Core.Path.{◌≡◌, refl, subst}
 use native.Mathlib.Omega.{arith}
 use lib.Dec.{eqb}
 use lib.ListN.{length, drop, length-append}
@@ -30,24 +31,24 @@ abbrev Every : {A : Type 0} → (A → Type 0) → List (ℕ × A) → Type 0
 Every P [] = Unit
 Every P (m ∷ l) = P m.1 × Every P l
 
-meaning_of : {A : Type 0} (P : A → Type 0) (l : List (ℕ × A)) → Every P l → (n : ℕ) (x : A) → meaning l n ≡ some x → P x
+meaning_of : {A : Type 0} (P : A → Type 0) (l : List (ℕ × A)) → Every P l → (n : ℕ) (x : A) → meaning l n ≡ Some x → P x
 unfolding meaning
-meaning_of P [] e n x h = absurd (some-ne-none x (sym h))
+meaning_of P [] e n x h = absurd (none-some x h)
 meaning_of P (m ∷ l) e n x h =
     split (eqb n m.0)
-    (λ p. let q : some m.1 ≡ some x = simp p at h in let s : m.1 ≡ x = cc in subst P s e.0)
+    (λ p. let q : Some m.1 ≡ Some x = simp p at h in let s : m.1 ≡ x = cc in subst P s e.0)
     (λ p. meaning_of P l e.1 n x (simp p at h))
 
-pub plain_floats : (k a s : ℕ) (r : Request) → plain_of k a s ≡ some r → FloatsOf r
+pub plain_floats : (k a s : ℕ) (r : Request) → plain_of k a s ≡ Some r → FloatsOf r
 unfolding plain_of
 plain_floats k a s r h = meaning_of FloatsOf (plain_kinds a s) (tt, (tt, (tt, (tt, (tt, (tt, (tt, (tt, (tt, (tt, (tt, tt))))))))))) k r h
 
 -- ---- the table
 
 module _ (ws os : List ℕ) (v : judge_words ws ≡ true) where
-  pub still_passes : (o : Option Request) → ((r : Request) → o ≡ some r → FloatsOf r) → judge_words (done_with (asked o) ws os).table ≡ true
-  still_passes none f = v
-  still_passes (some r) f = (pictures_after ws os [] r v (f r refl)).passes
+  pub still_passes : (o : Option Request) → ((r : Request) → o ≡ Some r → FloatsOf r) → judge_words (done_with (asked o) ws os).table ≡ true
+  still_passes None f = v
+  still_passes (Some r) f = (pictures_after ws os [] r v (f r refl)).passes
 
   -- ---- the orders
 
@@ -57,8 +58,8 @@ module _ (ws os : List ℕ) (v : judge_words ws ≡ true) where
       let l = length-append (order_words orders) (drop (length orders * 3) os) in let m = length_orders orders in omega arith
 
   pub orders_fit : (o : Option Request) → length (done_with (asked o) ws os).orders ≡ length os → answer_orders (done_with (asked o) ws os).answer * 3 ≤ length (done_with (asked o) ws os).orders
-  orders_fit none = λ e. omega arith
-  orders_fit (some r) =
+  orders_fit None = λ e. omega arith
+  orders_fit (Some r) =
       rw (carried ws os [] r v)
       (stepped (cache_in ws) (asking r [] (length os))
       (λ (o : Outcome). length (carried_out o.answer o ws os).orders ≡ length os → answer_orders (carried_out o.answer o ws os).answer * 3 ≤ length (carried_out o.answer o ws os).orders)
@@ -67,8 +68,8 @@ module _ (ws os : List ℕ) (v : judge_words ws ≡ true) where
 
   -- a request that lacks order words changes nothing
   pub lacking_same : (o : Option Request) → lacks_words (done_with (asked o) ws os) ≡ true → done_with (asked o) ws os ≡ left (done_with (asked o) ws os).answer ws os
-  lacking_same none = λ e. refl
-  lacking_same (some r) =
+  lacking_same None = λ e. refl
+  lacking_same (Some r) =
       rw (carried ws os [] r v)
       (stepped (cache_in ws) (asking r [] (length os))
       (λ (o : Outcome). lacks_words (carried_out o.answer o ws os) ≡ true → carried_out o.answer o ws os ≡ left (carried_out o.answer o ws os).answer ws os)

@@ -2,7 +2,7 @@
 use Prim.Native.Nat.{ℕ, ◌+◌, ◌≤◌}
 use mathlib.Core.Bool.{true, false, ◌&&◌}
 use mathlib.Core.List.{List, [], ◌∷◌, append-nil}
-use mathlib.Core.Option.{some, none}
+use Rattle.std.specs.Prelude.{None, Some}
 use mathlib.Core.Path.{◌≡◌, refl, sym, ap, subst, ◌∙◌}
 use native.Mathlib.Omega.{arith}
 use lib.Dec.{eqb, leb}
@@ -32,8 +32,7 @@ use Rattle.judge.specs.Verdict.{judge_words}
 use Rattle.room.proofs.After.{same_work, count_carries}
 use Rattle.room.specs.After.{after}
 use Rattle.room.specs.Held.{HeldIs}
-use Rattle.room.specs.declared.held.Held.{Held}
-use Rattle.room.specs.declared.held.Held.TheVariants.{Known, Unknown}
+use Rattle.room.specs.Types.{Held}
 use Rattle.cache.proofs.StepAnswers.{same_answer}
 use Rattle.cache.specs.Tables.{step_words}
 use Rattle.numbers.specs.Meanings.{meaning, asked, plain_of}
@@ -73,7 +72,7 @@ missing : (x : Access) (a s : ℕ) (c : Cache) (message : List ℕ) → is_here 
 unfolding effect
 missing x a s c message p z = miss_gives x a s c (rw p at z)
 
-quiet_effect : (c : Cache) (lent : ℕ) (message : List ℕ) {r : Request} → Quiet r → Sound c → refusal_of c (record { request = r; message = message; lent = lent }) ≡ none
+quiet_effect : (c : Cache) (lent : ℕ) (message : List ℕ) {r : Request} → Quiet r → Sound c → refusal_of c (record { request = r; message = message; lent = lent }) ≡ None
     → length (effect c message r).orders ≡ 0 → held (effect c message r).cache ≡ held c
 unfolding refusal_of
 quiet_effect c lent message (release a) k e z = still_held c (effect c message (Release a)) (effects c lent message (Release a) k e).held refl refl z
@@ -89,15 +88,15 @@ quiet_step c call q k =
 
 -- ---- over words
 
-quiet_kind : (k a s : ℕ) → 2 ≤ k → k ≤ 4 → (r : Request) × (plain_of k a s ≡ some r) × Quiet r
+quiet_kind : (k a s : ℕ) → 2 ≤ k → k ≤ 4 → (r : Request) × (plain_of k a s ≡ Some r) × Quiet r
 unfolding plain_of meaning
 quiet_kind k a s low high =
     split (eqb k 2)
-    (λ p. subst (λ (n : ℕ). (r : Request) × (plain_of n a s ≡ some r) × Quiet r) (sym (eqb-true k 2 p)) (Protect Reading a s, refl, protect Reading a s))
+    (λ p. subst (λ (n : ℕ). (r : Request) × (plain_of n a s ≡ Some r) × Quiet r) (sym (eqb-true k 2 p)) (Protect Reading a s, refl, protect Reading a s))
     (λ p. split (eqb k 3)
-    (λ q. subst (λ (n : ℕ). (r : Request) × (plain_of n a s ≡ some r) × Quiet r) (sym (eqb-true k 3 q)) (Protect Writing a s, refl, protect Writing a s))
+    (λ q. subst (λ (n : ℕ). (r : Request) × (plain_of n a s ≡ Some r) × Quiet r) (sym (eqb-true k 3 q)) (Protect Writing a s, refl, protect Writing a s))
     (λ q. let e : k ≡ 4 = let u = eqb-false k 2 p in let v = eqb-false k 3 q in omega arith in
-    subst (λ (n : ℕ). (r : Request) × (plain_of n a s ≡ some r) × Quiet r) (sym e) (Release a, refl, release a)))
+    subst (λ (n : ℕ). (r : Request) × (plain_of n a s ≡ Some r) × Quiet r) (sym e) (Release a, refl, release a)))
 
 -- The words of a table that passes, and order words.
 module _ (ws os : List ℕ) (v : judge_words ws ≡ true) where
@@ -117,8 +116,8 @@ module _ (ws os : List ℕ) (v : judge_words ws ≡ true) where
       choose (λ (h : Held). HeldIs h (cache_in (done_with (asked (plain_of k a s)) ws os).table)) (eqb n 0 && (leb 2 k && leb k 4)) (λ t. go t known i) (λ t. tt)
     where
       go : (eqb n 0 && (leb 2 k && leb k 4)) ≡ true → (known : Held) → HeldIs known (cache_in ws) → HeldIs known (cache_in (done_with (asked (plain_of k a s)) ws os).table)
-      go t Unknown i = tt
-      go t (Known m) i =
+      go t None i = tt
+      go t (Some m) i =
           let b = both (eqb n 0) (leb 2 k && leb k 4) t in
           let d = both (leb 2 k) (leb k 4) b.1 in
           let q = quiet_kind k a s (leb-true 2 k d.0) (leb-true k 4 d.1) in

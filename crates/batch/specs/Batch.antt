@@ -1,15 +1,12 @@
 -- Many requests on one table: what a batch answers and leaves, on any input.
-use Rattle.std.specs.Prelude.{ℕ, suc, ◌+◌, ◌*◌, Bool, List, [], ◌∷◌, ◌++◌, eqb, ltb, length, take, drop, if◌then◌else◌}
-use Rattle.rules.specs.declared.answer.Answer.TheVariants.{Refused}
+use Rattle.std.specs.Prelude.{ℕ, suc, ◌+◌, ◌*◌, Bool, List, [], ◌∷◌, ◌++◌, eqb, ltb, length, take, drop, if◌then◌else◌, None, Some, Ok, Err}
 use Rattle.rules.specs.declared.answer.Refusal.TheVariants as refusal
-use Rattle.rules.specs.declared.answer.Verdict.{Verdict}
-use Rattle.rules.specs.declared.answer.Verdict.TheVariants as verdict
+use Rattle.rules.specs.Types.{Verdict}
 use Rattle.rules.specs.Answers.{answer_number, answer_orders}
 use Rattle.judge.specs.Verdict.{judge_words}
 use Rattle.cache.specs.Tables.{Left, left, step_words}
 use Rattle.numbers.specs.Meanings.{asked, plain_of}
-use Rattle.numbers.specs.declared.request.Asked.{Asked}
-use Rattle.numbers.specs.declared.request.Asked.TheVariants.{Known, Unknown}
+use Rattle.numbers.specs.Types.{Asked}
 use Rattle.batch.specs.declared.Batched.{Batched}
 
 -- The answer, and the words of the table, of the order slice and of the answer slice after it.
@@ -26,8 +23,8 @@ after b table orders answers = record { batched = b; table = table; orders = ord
 
 -- As a step does it, with no message. A kind that a batch has not is meant for no mode: 5.
 abbrev pub done_with : Asked → List ℕ → List ℕ → Left
-done_with Unknown table orders = left (Refused refusal.Mode) table orders
-done_with (Known r) table orders = step_words table orders [] r
+done_with None table orders = left (Err refusal.Mode) table orders
+done_with (Some r) table orders = step_words table orders [] r
 
 -- It would be refused for too few order words.
 abbrev pub lacks_words : Left → Bool
@@ -51,18 +48,18 @@ before x y = record {
 -- One request after another, each on the table that the one before it left, with the order words and answer words that are then
 -- left; it stops before the first for which these are too few. Words that are no whole request are not read.
 unfoldable pub one_by_one : List ℕ → List ℕ → List ℕ → List ℕ → After
-one_by_one [] table orders answers = stopped verdict.Accepted table orders answers
-one_by_one (k ∷ []) table orders answers = stopped verdict.Accepted table orders answers
-one_by_one (k ∷ a ∷ []) table orders answers = stopped verdict.Accepted table orders answers
+one_by_one [] table orders answers = stopped (Ok tt) table orders answers
+one_by_one (k ∷ []) table orders answers = stopped (Ok tt) table orders answers
+one_by_one (k ∷ a ∷ []) table orders answers = stopped (Ok tt) table orders answers
 one_by_one (k ∷ a ∷ s ∷ rest) table orders answers =
     let x = done_with (asked (plain_of k a s)) table orders in
     if ltb (length answers) 2
-    then stopped (verdict.Refused refusal.OrderWords) table orders answers
+    then stopped (Err refusal.OrderWords) table orders answers
     else (if lacks_words x
-    then stopped (verdict.Refused refusal.OrderWords) table orders answers
+    then stopped (Err refusal.OrderWords) table orders answers
     else before x (one_by_one rest x.table (drop (answer_orders x.answer * 3) x.orders) (drop 2 answers)))
 
 -- A table that pictures no cache is refused: 1.
 unfoldable pub batch_words : List ℕ → List ℕ → List ℕ → List ℕ → After
 batch_words table orders requests answers =
-    if judge_words table then one_by_one requests table orders answers else stopped (verdict.Refused refusal.Table) table orders answers
+    if judge_words table then one_by_one requests table orders answers else stopped (Err refusal.Table) table orders answers

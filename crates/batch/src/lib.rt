@@ -4,27 +4,26 @@
 // orders it gave. Orders stand one request's after the other's. Take and configure, which need more, are not done in a batch.
 #![tactic(auto)]
 
-ghost use Rattle.std.specs.Prelude.{true, ◌≡◌, ◌≤◌, length, get_or};
+ghost use Rattle.std.specs.Prelude.{true, ◌≡◌, ◌≤◌, eqb, length, get_or};
 ghost use Rattle.cache.specs.Tables.{left};
 ghost use Rattle.judge.specs.Verdict.{judge_words};
 ghost use Rattle.layout.specs.Picture.{cache_in};
 ghost use Rattle.numbers.specs.Meanings.{asked, plain_of};
+ghost use Rattle.rules.specs.Answers.{answer_number};
 ghost use Rattle.room.specs.Held.{HeldIs};
 ghost use Rattle.batch.specs.Known.{kept_for};
 ghost use Rattle.batch.specs.Batch.{after, done_with, one_by_one, batch_words};
 
 use cache::step_judged;
 use judge::judge;
-use numbers::answer::answer_of;
-use numbers::request::{Asked, plain_request};
-use room::{Held, held_now};
-use rules::answer::{Answer, Refusal, Verdict};
+use numbers::raw::RawAnswer;
+use numbers::request::plain_request;
+use room::held_now;
+use rules::answer::Refusal;
 use table::header::row_count;
 
-// The number of the refusal for too few order words.
-const FEW_WORDS: u64 = 2;
-
-// The kinds of a protect, for reading, and of a release; that of a protect for writing is between them.
+// The kinds of a protect, for reading, and of a release; that of a protect for writing is between them. They are numbers here, since
+// `kept_for` of specs/Known.antt, which `known_after` promises, is defined over the kind's number.
 const PROTECT: u64 = 2;
 
 const RELEASE: u64 = 4;
@@ -33,7 +32,7 @@ const RELEASE: u64 = 4;
 #[derive(Clone, Copy)]
 pub struct Batched {
     // Accepted if every request was answered; else why the first that was not was not begun.
-    pub verdict: Verdict,
+    pub verdict: Result<(), Refusal>,
     // How many requests were answered.
     pub done: usize,
     // How many orders they gave.
@@ -41,40 +40,51 @@ pub struct Batched {
 }
 
 // What is known of the held bytes before a request: a release needs them.
-fn known_before(table: &[u64], kind: u64, held: Held) -> Held
+fn known_before(table: &[u64], kind: u64, held: Option<u64>) -> Option<u64>
     requires { (judge_words table.now ≡ true) × HeldIs held (cache_in table.now) }
     ensures { HeldIs result (cache_in table.now) }
 {
     if kind != RELEASE {
         return held;
     }
-    let rows = row_count(table);
-    Held::Known(held_now(table, rows, held))
+    Some(held_now(table, row_count(table), held))
 }
 
 // And after it: a protect or a release that gave no orders leaves them.
-fn known_after(kind: u64, orders: u64, held: Held) -> Held
+fn known_after(kind: u64, orders: u64, held: Option<u64>) -> Option<u64>
     ensures { result ≡ kept_for kind orders held }
 {
     if (orders == 0) & ((PROTECT <= kind) & (kind <= RELEASE)) {
         return held;
     }
-    Held::Unknown
+    None
 }
 
 // The request in the first three words, on a table that passed.
-fn one(table: &mut [u64], orders: &mut [u64], words: &[u64], known: Held) -> Answer
+fn one(
+    table: &mut [u64],
+    orders: &mut [u64],
+    words: &[u64],
+    known: Option<u64>,
+) -> Result<u64, Refusal>
     requires { (judge_words table.old ≡ true) × (3 ≤ length words.now) × HeldIs known (cache_in table.old) }
     ensures { left result table.new orders.new ≡ done_with (asked (plain_of (get_or words.now 0 0) (get_or words.now 1 0) (get_or words.now 2 0))) table.old orders.old }
 {
-    let none = [0u8; 1];
     match plain_request(words[0], words[1], words[2]) {
-        Asked::Known(request) => step_judged(table, orders, &none[0..0], request, known),
-        Asked::Unknown => Answer::Refused(Refusal::Mode),
+        Some(request) => step_judged(table, orders, &[], request, known),
+        None => Err(Refusal::Mode),
     }
 }
 
-// One request after another, on a table that passed.
+// Whether too few order words were left for the request.
+fn lacks_words(answer: Result<u64, Refusal>) -> bool
+    ensures { result ≡ eqb (answer_number answer) 2 }
+{
+    matches!(answer, Err(Refusal::OrderWords))
+}
+
+// One request after another, on a table that passed. A loop and no range: how many were done and the verdict are answered after it, and a
+// `for` gives no value.
 fn one_by_one(
     table: &mut [u64],
     orders: &mut [u64],
@@ -86,23 +96,24 @@ fn one_by_one(
 {
     let mut done: usize = 0;
     let mut given: usize = 0;
-    let mut held = Held::Unknown;
+    let mut held = None;
     let verdict = loop {
         let from = done * 3;
         if requests.len() < from + 3 {
-            break Verdict::Accepted;
+            break Ok(());
         }
         let to = done * 2;
         if answers.len() < to + 2 {
-            break Verdict::Refused(Refusal::OrderWords);
+            break Err(Refusal::OrderWords);
         }
         let free = given * 3;
         let kind = requests[from];
         let known = known_before(table, kind, held);
-        let told = answer_of(one(table, &mut orders[free..], &requests[from..], known));
-        if told.number == FEW_WORDS {
-            break Verdict::Refused(Refusal::OrderWords);
+        let answer = one(table, &mut orders[free..], &requests[from..], known);
+        if lacks_words(answer) {
+            break Err(Refusal::OrderWords);
         }
+        let told = RawAnswer::from(answer);
         answers[to] = told.number;
         answers[to + 1] = told.orders;
         held = known_after(kind, told.orders, known);
@@ -128,7 +139,7 @@ pub fn batch(
 {
     if !judge(table) {
         return Batched {
-            verdict: Verdict::Refused(Refusal::Table),
+            verdict: Err(Refusal::Table),
             done: 0,
             orders: 0,
         };

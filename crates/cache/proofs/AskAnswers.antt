@@ -2,7 +2,7 @@
 use Prim.Native.Nat.{ℕ}
 use mathlib.Core.Bool.{true, false}
 use mathlib.Core.List.{List}
-use mathlib.Core.Option.{Option, none, some}
+use Rattle.std.specs.Prelude.{Option, None, Some, Err}
 use mathlib.Core.Path.{◌≡◌, refl, sym, ap, ◌∙◌}
 use lib.ListN.{length}
 use Rattle.rules.proofs.Tests.{split}
@@ -13,8 +13,7 @@ use Rattle.rules.specs.Refusals.{refusal_of}
 use Rattle.rules.specs.Requests.{effect, judged, step}
 use Rattle.rules.specs.declared.answer.Refusal.{Refusal}
 use Rattle.rules.specs.declared.answer.Refusal.TheVariants as refusal
-use Rattle.rules.specs.declared.answer.Verdict.{Verdict}
-use Rattle.rules.specs.declared.answer.Verdict.TheVariants as verdict
+use Rattle.rules.specs.Types.{Verdict}
 use Rattle.rules.specs.declared.request.Request.{Request}
 use Rattle.layout.specs.Picture.{cache_in}
 use Rattle.judge.specs.Verdict.{judge_words}
@@ -23,7 +22,7 @@ use Rattle.cache.specs.Tables.{step_words}
 use Rattle.cache.proofs.StepAnswers.{same_answer}
 
 module _ (ws message : List ℕ) (lent : ℕ) (r : Request) where
-  pub ask_damaged : judge_words ws ≡ false → verdict.Refused refusal.Table ≡ ask_words ws lent message r
+  pub ask_damaged : judge_words ws ≡ false → Err refusal.Table ≡ ask_words ws lent message r
   unfolding ask_words
   ask_damaged v = rw v
 
@@ -34,8 +33,8 @@ module _ (ws message : List ℕ) (lent : ℕ) (r : Request) where
 -- ---- what step would answer
 
 judged_verdict : (o : Option Refusal) (c : Cache) (w : Work) → verdict_of o ≡ verdict_in (judged o c w).answer
-judged_verdict none c w = refl
-judged_verdict (some r) c w = refl
+judged_verdict None c w = refl
+judged_verdict (Some r) c w = refl
 
 module _ (ws os message : List ℕ) (r : Request) where
   passed : judge_words ws ≡ true → ask_words ws (length os) message r ≡ verdict_in (step_words ws os message r).answer

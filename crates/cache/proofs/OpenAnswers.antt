@@ -1,4 +1,5 @@
 -- What opening comes to, test by test.
+use Rattle.std.specs.Prelude.{Ok, Err}
 use Prim.Native.Nat.{ℕ, ◌<◌, ◌≤◌}
 use mathlib.Core.Bool.{Bool, true, false, not, ◌||◌}
 use mathlib.Core.List.{List}
@@ -13,7 +14,6 @@ use Rattle.rules.specs.Cache.{fresh}
 use Rattle.rules.specs.Limits.{most_rows, most_threshold}
 use Rattle.rules.specs.Opening.{refusal_of_opening}
 use Rattle.rules.specs.Refusals.{first_of}
-use Rattle.rules.specs.declared.answer.Answer.TheVariants.{Accepted, Refused}
 use Rattle.rules.specs.declared.answer.Refusal.TheVariants as refusal
 use Rattle.settings.specs.declared.Mode.{Mode}
 use Rattle.layout.specs.Layout.{layout_words}
@@ -46,21 +46,21 @@ few_words rows words n z m e =
     (λ h. let l = ltb-false words (layout_words rows) h in rw (h, le-leb (layout_words rows) words l)))
 
 module _ (table : List ℕ) (rows : ℕ) (mode : Mode) (threshold : ℕ) (s : Settings) where
-  pub open_table : table_refused rows (length table) ≡ true → opened (Refused refusal.Table) table ≡ open_words table rows mode threshold s
+  pub open_table : table_refused rows (length table) ≡ true → opened (Err refusal.Table) table ≡ open_words table rows mode threshold s
   unfolding open_words refusal_of_opening first_of
   open_table h = rw h
 
   module _ (h : table_refused rows (length table) ≡ false) where
-    pub open_mode : threshold_refused threshold ≡ true → opened (Refused refusal.Mode) table ≡ open_words table rows mode threshold s
+    pub open_mode : threshold_refused threshold ≡ true → opened (Err refusal.Mode) table ≡ open_words table rows mode threshold s
     unfolding open_words refusal_of_opening first_of
     open_mode k = rw (h, k)
 
     module _ (k : threshold_refused threshold ≡ false) where
-      pub open_setting : (n : ℕ) → n ≡ first_bad s true → (n ≡ 0 → ⊥) → opened (Refused (refusal.Setting n)) table ≡ open_words table rows mode threshold s
+      pub open_setting : (n : ℕ) → n ≡ first_bad s true → (n ≡ 0 → ⊥) → opened (Err (refusal.Setting n)) table ≡ open_words table rows mode threshold s
       unfolding open_words refusal_of_opening first_of
       open_setting n e b = rw (h, k, ← e, ne_eqb n 0 b)
 
       pub open_fresh : {out : List ℕ} (n : ℕ) → n ≡ first_bad s true → n ≡ 0 → out ≡ encode (fresh rows mode threshold s) (drop (layout_words rows) table)
-          → opened (Accepted 0) out ≡ open_words table rows mode threshold s
+          → opened (Ok 0) out ≡ open_words table rows mode threshold s
       unfolding open_words refusal_of_opening first_of
       open_fresh n e b o = rw (o, h, k, ← e, eq-eqb n 0 b)

@@ -1,4 +1,5 @@
 -- What a request on a table that passes comes to: the rules' answer, the words of the cache that they give, and their orders.
+use Rattle.std.specs.Prelude.{Ok, Err}
 use Prim.Native.Nat.{ℕ, suc}
 use mathlib.Core.Bool.{Bool, true, false, not}
 use mathlib.Core.List.{List, [], ◌∷◌, ◌++◌, append-nil, append_assoc}
@@ -11,12 +12,9 @@ use Rattle.rules.specs.Answers.{verdict_of}
 use Rattle.rules.specs.Hosts.{asking}
 use Rattle.rules.specs.Refusals.{refusal_of}
 use Rattle.rules.specs.Requests.{Outcome, effect, step}
-use Rattle.rules.specs.declared.answer.Answer.TheVariants.{Accepted, Refused}
-use Rattle.rules.specs.declared.answer.Answer.{Answer}
+use Rattle.rules.specs.Types.{Answer, Verdict}
 use Rattle.rules.specs.declared.answer.Refusal.TheVariants as refusal
 use Rattle.rules.specs.declared.answer.Refusal.{Refusal}
-use Rattle.rules.specs.declared.answer.Verdict.{Verdict}
-use Rattle.rules.specs.declared.answer.Verdict.TheVariants as verdict
 use Rattle.rules.specs.declared.order.Order.{Order}
 use Rattle.rules.specs.declared.request.Request.{Request}
 use Rattle.layout.proofs.Ordered.{written_none, written_next}
@@ -60,7 +58,7 @@ module _ {r v : Bool} (e : r ≡ v) where
 pub same_left : {a b : Answer} {out words : List ℕ} {l : Left} → a ≡ b → left b out words ≡ l → left a out words ≡ l
 same_left {out = out} {words} e p = ap (λ (x : Answer). left x out words) e ∙ p
 
-pub step_damaged : (ws os message : List ℕ) (r : Request) → judge_words ws ≡ false → left (Refused refusal.Table) ws os ≡ step_words ws os message r
+pub step_damaged : (ws os message : List ℕ) (r : Request) → judge_words ws ≡ false → left (Err refusal.Table) ws os ≡ step_words ws os message r
 unfolding step_words
 step_damaged ws os message r v = rw v
 
@@ -86,8 +84,8 @@ module _ (ws os message : List ℕ) (r : Request) (v : judge_words ws ≡ true) 
   carried = rw v
 
   answer_of : (a : Answer) (o : Outcome) → (carried_out a o ws os).answer ≡ a
-  answer_of (Accepted n) o = refl
-  answer_of (Refused x) o = refl
+  answer_of (Ok n) o = refl
+  answer_of (Err x) o = refl
 
   pub same_answer : (step_words ws os message r).answer ≡ (step (cache_in ws) (asking r message (length os))).answer
   same_answer = let o = step (cache_in ws) (asking r message (length os)) in ap (λ x. x.answer) carried ∙ answer_of o.answer o
@@ -95,11 +93,11 @@ module _ (ws os message : List ℕ) (r : Request) (v : judge_words ws ≡ true) 
 -- ---- by the tests, and by the work
 
 module _ (ws os message : List ℕ) (r : Request) (v : judge_words ws ≡ true) {v₀ : Verdict} (p : v₀ ≡ verdict_of (refusal_of (cache_in ws) (asking r message (length os)))) where
-  pub step_not : (x : Refusal) → v₀ ≡ verdict.Refused x → left (Refused x) ws os ≡ step_words ws os message r
+  pub step_not : (x : Refusal) → v₀ ≡ Err x → left (Err x) ws os ≡ step_words ws os message r
   step_not x e = step_left ws os message r v (answered_not (asking r message (length os)) os x (good ws v) (verdict_some _ x (sym p ∙ e)))
 
-  pub not_refused : v₀ ≡ verdict.Accepted → Unrefused ws (asking r message (length os))
+  pub not_refused : v₀ ≡ Ok tt → Unrefused ws (asking r message (length os))
   not_refused e = record { good = good ws v; allowed = (sound ws v).0; accepted = verdict_none _ (sym p ∙ e) }
 
-  pub step_did : v₀ ≡ verdict.Accepted → {out words : List ℕ} {given : ℕ} → Did (effect (cache_in ws) message r) (rest_in ws) out 0 os words given → left (Accepted given) out words ≡ step_words ws os message r
+  pub step_did : v₀ ≡ Ok tt → {out words : List ℕ} {given : ℕ} → Did (effect (cache_in ws) message r) (rest_in ws) out 0 os words given → left (Ok given) out words ≡ step_words ws os message r
   step_did e d = step_left ws os message r v (answered_done (cache_in ws) (asking r message (length os)) (verdict_none _ (sym p ∙ e)) d)

@@ -1,9 +1,7 @@
 -- The entry points on the words of a table: what each answers and leaves, on any input.
-use Rattle.std.specs.Prelude.{ℕ, false, List, leb, length, drop, replicate, if◌then◌else◌}
-use Rattle.std.proofs.Math.Option.{Option, none, some}
+use Rattle.std.specs.Prelude.{ℕ, List, leb, length, drop, if◌then◌else◌, Option, None, Some, Result, Ok, Err}
 use Rattle.settings.specs.declared.Settings.{Settings}
-use Rattle.rules.specs.declared.answer.Answer.{Answer}
-use Rattle.rules.specs.declared.answer.Answer.TheVariants.{Accepted, Refused}
+use Rattle.rules.specs.Types.{Answer}
 use Rattle.rules.specs.declared.answer.Refusal.{Refusal}
 use Rattle.rules.specs.declared.answer.Refusal.TheVariants as refusal
 use Rattle.rules.specs.declared.report.Report.{Report}
@@ -17,7 +15,6 @@ use Rattle.rules.specs.Requests.{Outcome, step}
 use Rattle.layout.specs.Layout.{layout_words}
 use Rattle.layout.specs.Picture.{encode, cache_in, rest_in, written}
 use Rattle.judge.specs.Verdict.{judge_words}
-use Rattle.cache.specs.declared.reporting.Reported.{Reported}
 
 -- An answer, with the words of the table and of the order slice after it.
 pub record Left : Type 0 where
@@ -33,15 +30,15 @@ left r table orders = record { answer = r; table = table; orders = orders }
 -- Accepted: the table has the words of the cache that the rules give, and the order slice has the rules' orders, three
 -- words each; the words past the layout and past the last order stay. Refused: no lent word changes.
 abbrev pub carried_out : Answer → Outcome → List ℕ → List ℕ → Left
-carried_out (Accepted n) o table orders = left (Accepted n) (encode o.cache (rest_in table)) (written o.orders orders)
-carried_out (Refused r) o table orders = left (Refused r) table orders
+carried_out (Ok n) o table orders = left (Ok n) (encode o.cache (rest_in table)) (written o.orders orders)
+carried_out (Err r) o table orders = left (Err r) table orders
 
 -- By the rules, on the cache that the words picture; 1 if they picture none.
 unfoldable pub step_words : List ℕ → List ℕ → List ℕ → Request → Left
 step_words table orders message r =
     if judge_words table
     then (let o = step (cache_in table) (asking r message (length orders)) in carried_out o.answer o table orders)
-    else left (Refused refusal.Table) table orders
+    else left (Err refusal.Table) table orders
 
 -- ---- opening
 
@@ -54,33 +51,15 @@ opened r table = record { answer = r; table = table }
 
 -- Accepted: the table has the words of the fresh cache, whatever it had; the words past the layout stay.
 abbrev pub opened_with : Option Refusal → List ℕ → ℕ → Cache → Opened
-opened_with none table rows c = opened (Accepted 0) (encode c (drop (layout_words rows) table))
-opened_with (some r) table rows c = opened (Refused r) table
+opened_with None table rows c = opened (Ok 0) (encode c (drop (layout_words rows) table))
+opened_with (Some r) table rows c = opened (Err r) table
 
 unfoldable pub open_words : List ℕ → ℕ → Mode → ℕ → Settings → Opened
 open_words table rows mode threshold s =
-    opened_with (refusal_of_opening rows (leb (layout_words rows) (length table)) (some mode) threshold s) table rows (fresh rows mode threshold s)
+    opened_with (refusal_of_opening rows (leb (layout_words rows) (length table)) (Some mode) threshold s) table rows (fresh rows mode threshold s)
 
 -- ---- the report
 
--- All zero, which a refused report gives.
-abbrev pub no_report : Report
-no_report = record {
-  held = 0;
-  dirty = 0;
-  entries = 0;
-  maximum = 0;
-  clean = 0;
-  missing = 0;
-  count = 0;
-  due = false;
-  next = 0;
-  totals = replicate 11 0;
-}
-
 -- The figures of the cache that the words picture; 1 if they picture none.
-unfoldable pub report_words : List ℕ → Reported
-report_words table =
-    if judge_words table
-    then record { answer = Accepted 0; report = report_of (cache_in table) }
-    else record { answer = Refused refusal.Table; report = no_report }
+unfoldable pub report_words : List ℕ → Result Report Refusal
+report_words table = if judge_words table then Ok (report_of (cache_in table)) else Err refusal.Table

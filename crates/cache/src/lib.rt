@@ -11,7 +11,7 @@ mod stepping;
 mod work;
 
 pub use asking::ask;
-pub use message::write::{Written, write_message};
+pub use message::write::write_message;
 pub use opening::open;
-pub use reporting::{Reported, report};
+pub use reporting::report;
 pub use stepping::{Worked, step, step_judged, work_judged};

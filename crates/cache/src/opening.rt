@@ -6,7 +6,7 @@ ghost use Rattle.cache.specs.Tables.{opened, open_words};
 
 use layout::fresh::write_fresh;
 use layout::place::layout_words;
-use rules::answer::{Answer, Refusal};
+use rules::answer::Refusal;
 use settings::{Mode, Settings, first_bad_field};
 
 const MOST_ROWS: u64 = 4096;
@@ -33,19 +33,25 @@ fn bad_threshold(threshold: u64) -> bool
 }
 
 // Opens a cache with so many rows: the table then holds a fresh one.
-pub fn open(table: &mut [u64], rows: u64, mode: Mode, threshold: u64, s: Settings) -> Answer
+pub fn open(
+    table: &mut [u64],
+    rows: u64,
+    mode: Mode,
+    threshold: u64,
+    s: Settings,
+) -> Result<u64, Refusal>
     ensures { opened result table.new ≡ open_words table.old rows mode threshold s }
 {
     if bad_rows(rows, table.len()) {
-        return Answer::Refused(Refusal::Table);
+        return Err(Refusal::Table);
     }
     if bad_threshold(threshold) {
-        return Answer::Refused(Refusal::Mode);
+        return Err(Refusal::Mode);
     }
     let field = first_bad_field(s, true);
     if field != 0 {
-        return Answer::Refused(Refusal::Setting(field));
+        return Err(Refusal::Setting(field));
     }
     write_fresh(table, rows as usize, mode, threshold, s);
-    Answer::Accepted(0)
+    Ok(0)
 }

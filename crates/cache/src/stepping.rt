@@ -1,7 +1,6 @@
 // One request on the cache in a lent table.
 ghost use Rattle.std.specs.Prelude.{◌≡◌, true, [], length};
 ghost use Rattle.rules.specs.Hosts.{asking};
-ghost use Rattle.reason_rules.specs.declared.Change.TheVariants as change;
 ghost use Rattle.reasons.specs.Runs.{all_runs};
 ghost use Rattle.judge.specs.Verdict.{judge_words};
 ghost use Rattle.layout.specs.Picture.{cache_in};
@@ -12,27 +11,26 @@ ghost use Rattle.cache.specs.Named.{Named};
 use crate::work::carry_out;
 use judge::judge;
 use lists::take::take;
-use reason_rules::Change;
 use reasons::runs::{Done, no_orders};
 use refusals::named::find_named;
 use refusals::refusal_of;
-use room::Held;
-use rules::answer::{Answer, Refusal, Verdict};
+use rules::answer::Refusal;
 use rules::request::Request;
 use table::header::row_count;
 
-// What a request comes to: its answer, and what its work tells.
+// What a request comes to: its answer, and what its work tells. The work is no Result, since `Named` says the
+// runs and the change of a refused request too.
 #[derive(Clone, Copy)]
 pub struct Worked {
-    pub answer: Answer,
+    pub answer: Result<u64, Refusal>,
     pub done: Done,
 }
 
 // A request that gave no orders and changed no maximum.
-fn without_orders(answer: Answer) -> Worked
-    ensures { (result.answer ≡ answer) × (all_runs result.done.runs ≡ []) × (result.done.change ≡ change.Same) }
+fn without_orders(answer: Result<u64, Refusal>) -> Worked
+    ensures { (result.answer ≡ answer) × (all_runs result.done.runs ≡ []) × (result.done.change ≡ None) }
 {
-    let done = no_orders(Change::Same);
+    let done = no_orders(None);
     Worked { answer, done }
 }
 
@@ -42,7 +40,7 @@ pub fn work_judged(
     orders: &mut [u64],
     message: &[u8],
     request: Request,
-    known: Held,
+    known: Option<u64>,
 ) -> Worked
     requires { (judge_words table.old ≡ true) × HeldIs known (cache_in table.old) }
     ensures orders_after { left result.answer table.new orders.new ≡ step_words table.old orders.old message.now request }
@@ -54,12 +52,12 @@ pub fn work_judged(
     let rows = row_count(table);
     let found = find_named(table, rows, request);
     let verdict = refusal_of(table, rows, found, orders.len(), message, request);
-    if let Verdict::Refused(refusal) = verdict {
-        return without_orders(Answer::Refused(refusal));
+    if let Err(refusal) = verdict {
+        return without_orders(Err(refusal));
     }
     let done = carry_out(table, orders, found, message, request, known);
     Worked {
-        answer: Answer::Accepted(done.given as u64),
+        answer: Ok(done.given as u64),
         done,
     }
 }
@@ -70,8 +68,8 @@ pub fn step_judged(
     orders: &mut [u64],
     message: &[u8],
     request: Request,
-    known: Held,
-) -> Answer
+    known: Option<u64>,
+) -> Result<u64, Refusal>
     requires { (judge_words table.old ≡ true) × HeldIs known (cache_in table.old) }
     ensures { left result table.new orders.new ≡ step_words table.old orders.old message.now request }
 {
@@ -80,11 +78,16 @@ pub fn step_judged(
 }
 
 // Does one request: the answer has the number of orders, which stand in the words lent for them.
-pub fn step(table: &mut [u64], orders: &mut [u64], message: &[u8], request: Request) -> Answer
+pub fn step(
+    table: &mut [u64],
+    orders: &mut [u64],
+    message: &[u8],
+    request: Request,
+) -> Result<u64, Refusal>
     ensures { left result table.new orders.new ≡ step_words table.old orders.old message.now request }
 {
     if !judge(table) {
-        return Answer::Refused(Refusal::Table);
+        return Err(Refusal::Table);
     }
-    step_judged(table, orders, message, request, Held::Unknown)
+    step_judged(table, orders, message, request, None)
 }

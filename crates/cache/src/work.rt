@@ -17,12 +17,10 @@ use lists::flush::flush;
 use lists::sync::sync;
 use pin::{pin, unpin};
 use protect::protect;
-use reason_rules::Change;
 use reasons::runs::{Done, no_orders};
 use refusals::named::row_in;
 use release::{release, release_changed};
 use resize::resize;
-use room::Held;
 use rules::request::Request;
 use table::lookup::Found;
 
@@ -30,10 +28,10 @@ use table::lookup::Found;
 pub fn carry_out(
     table: &mut [u64],
     orders: &mut [u64],
-    found: Found,
+    found: Option<Found>,
     message: &[u8],
     request: Request,
-    known: Held,
+    known: Option<u64>,
 ) -> Done
     requires { Unrefused table.old (asking request message.now (length orders.old)) × NoTake request × (found ≡ found_for (cache_in table.old).rows request) × HeldIs known (cache_in table.old) }
     ensures did { Did (effect (cache_in table.old) message.now request) (rest_in table.old) table.new 0 orders.old orders.new result.given }
@@ -53,11 +51,11 @@ pub fn carry_out(
         }
         Request::Pin { address } => {
             pin(table, row, address);
-            no_orders(Change::Same)
+            no_orders(None)
         }
         Request::Unpin { address } => {
             unpin(table, row, address);
-            no_orders(Change::Same)
+            no_orders(None)
         }
         Request::Resize { address, size } => {
             let change = resize(table, row, address, size);
@@ -65,11 +63,11 @@ pub fn carry_out(
         }
         Request::Discard { address } => {
             discard(table, found, address);
-            no_orders(Change::Same)
+            no_orders(None)
         }
         Request::Flush => flush(table, orders),
         Request::Sync => sync(table, orders),
-        Request::Take => no_orders(Change::Same),
+        Request::Take => no_orders(None),
         Request::Configure(s) => configure(table, orders, s),
     }
 }

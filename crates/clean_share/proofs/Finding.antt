@@ -2,7 +2,7 @@
 use Prim.Native.Nat.{ℕ, ◌+◌, ◌-◌, ◌*◌, ◌≤◌}
 use mathlib.Core.Bool.{true, false}
 use mathlib.Core.List.{List}
-use mathlib.Core.Option.{some}
+use Rattle.std.specs.Prelude.{Some}
 use mathlib.Core.Path.{◌≡◌, ap₂, ◌∙◌}
 use native.Mathlib.Nat.{le_refl}
 use native.Mathlib.Omega.{arith}
@@ -13,7 +13,7 @@ use Rattle.rules.specs.Limits.{most_rows, most_size}
 use Rattle.rules.specs.Room.{clean_bytes, share_missing}
 use Rattle.rules.specs.Rows.{get, held_bytes}
 use Rattle.rules.specs.declared.entry.Entry.{Entry}
-use Rattle.rules.specs.declared.entry.Row.{Row}
+use Rattle.rules.specs.Types.{Row}
 use Rattle.layout.specs.Picture.{cache_in}
 use Rattle.table.proofs.Turns.{total_fits}
 use Rattle.table.specs.Asked.{GoodRows}
@@ -25,7 +25,7 @@ pub wanted_found : (c : Cache) (x maximum held : ℕ) (s : Settings) {unused lea
 wanted_found c x maximum held s m t h u l r = r ∙ ap₂ (λ (p q : ℕ). p - q) (l ∙ ap₂ (λ (n : ℕ) (z : Settings). size_product n z.clean) m t) (u ∙ ap₂ (λ (n k : ℕ). n - (k + x)) m h)
 
 -- what the entry at an address counts, dirty or clean
-module _ (rows : List Row) (a : ℕ) (e : Entry) (r : get rows a ≡ some e) where
+module _ (rows : List Row) (a : ℕ) (e : Entry) (r : get rows a ≡ Some e) where
   pub size_dirty : e.dirty ≡ true → 0 ≡ clean_size rows a
   size_dirty d = rw (r, d)
 

@@ -12,7 +12,6 @@ ghost use Rattle.table.specs.Told.{clean_size, listed_at};
 ghost use Rattle.clean_share.specs.Wanted.{wanted_bytes};
 
 use layout::row::entry_at;
-use new_maximum::less;
 use table::header::{maximum, settings};
 use table::lookup::recency_row;
 use table::runs::listed_len;
@@ -23,9 +22,8 @@ fn clean_wanted(table: &[u64], size: u64, held: u64) -> u64
     ensures { result ≡ wanted_bytes size (cache_in table.now) }
 {
     let maximum = maximum(table);
-    let s = settings(table);
-    let unused = less(maximum, held + size);
-    less(fraction::size_product(maximum, s.clean), unused)
+    let minimum = fraction::size_product(maximum, settings(table).clean);
+    minimum.saturating_sub(maximum.saturating_sub(held + size))
 }
 
 // The size of the entry at a place of the recency list if it is clean, else 0.
@@ -33,12 +31,8 @@ fn clean_size(table: &[u64], rows: usize, pos: usize) -> u64
     requires { GoodRows table.now rows × (pos < length (cache_in table.now).recency) }
     ensures { result ≡ clean_size (cache_in table.now).rows (listed_at table.now pos) }
 {
-    let row = recency_row(table, rows, pos);
-    let e = entry_at(table, row);
-    if e.dirty {
-        return 0;
-    }
-    e.size
+    let e = entry_at(table, recency_row(table, rows, pos));
+    if e.dirty { 0 } else { e.size }
 }
 
 // How many of the bytes wanted the clean entries of the recency list lack. It looks no further than to enough of them.
@@ -46,16 +40,13 @@ fn clean_missing(table: &[u64], rows: usize, wanted: u64) -> u64
     requires { GoodRows table.now rows }
     ensures { result ≡ wanted - clean_bytes (cache_in table.now).rows (cache_in table.now).recency }
 {
-    let listed = listed_len(table, rows);
     let mut left = wanted;
-    let mut pos: usize = 0;
-    while pos < listed {
+    for pos in 0..listed_len(table, rows) {
         let size = clean_size(table, rows, pos);
         if left <= size {
             return 0;
         }
         left -= size;
-        pos += 1;
     }
     left
 }

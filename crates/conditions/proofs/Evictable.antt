@@ -2,6 +2,7 @@
 use Prim.Native.Nat.{ℕ, suc}
 use mathlib.Core.Bool.{Bool, true, false, not}
 use mathlib.Core.List.{List, [], ◌∷◌}
+use mathlib.Core.Logic.{◌⊎◌, ⊎_elim}
 use mathlib.Core.Path.{◌≡◌, refl, sym, ap, ◌∙◌}
 use lib.Dec.{ltb}
 use lib.ListN.{length}
@@ -11,7 +12,7 @@ use Rattle.rules.specs.Addresses.{some_address}
 use Rattle.rules.specs.Cache.{Cache}
 use Rattle.rules.specs.Refusals.{may_evict, no_row}
 use Rattle.rules.specs.Rows.{clean_at, has_free}
-use Rattle.rules.specs.declared.entry.Row.{Row}
+use Rattle.rules.specs.Types.{Row}
 use Rattle.settings.specs.declared.Mode.{Mode}
 use Rattle.settings.specs.declared.Mode.TheVariants.{Alone, Lead, Standby}
 
@@ -28,11 +29,8 @@ module _ {m mode : Mode} (rows : List Row) (l : List ℕ) (p : m ≡ mode) where
   evictable_alone q e = ap (ltb 0) e ∙ some_alone rows l ∙ ap (λ (k : Mode). some_address (may_evict k rows) l) (sym q ∙ p)
 
   -- else, if it has a clean one
-  pub evictable_lead : {r : Bool} → m ≡ Lead → r ≡ some_address (clean_at rows) l → r ≡ some_address (may_evict mode rows) l
-  evictable_lead q e = e ∙ ap (λ (k : Mode). some_address (may_evict k rows) l) (sym q ∙ p)
-
-  pub evictable_standby : {r : Bool} → m ≡ Standby → r ≡ some_address (clean_at rows) l → r ≡ some_address (may_evict mode rows) l
-  evictable_standby q e = e ∙ ap (λ (k : Mode). some_address (may_evict k rows) l) (sym q ∙ p)
+  pub evictable_clean : {r : Bool} → (m ≡ Lead) ⊎ (m ≡ Standby) → r ≡ some_address (clean_at rows) l → r ≡ some_address (may_evict mode rows) l
+  evictable_clean q e = e ∙ ⊎_elim (λ (h : m ≡ Lead). ap (λ (k : Mode). some_address (may_evict k rows) l) (sym h ∙ p)) (λ (h : m ≡ Standby). ap (λ (k : Mode). some_address (may_evict k rows) l) (sym h ∙ p)) q
 
 -- ---- the tests in turn
 

@@ -1,2 +1,1 @@
 pub mod Evictable
-pub mod Joined

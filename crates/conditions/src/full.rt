@@ -15,11 +15,9 @@ fn any_evictable(table: &[u64], rows: usize) -> bool
     requires { GoodRows table.now rows }
     ensures { result ≡ some_address (may_evict (cache_in table.now).mode (cache_in table.now).rows) (cache_in table.now).recency }
 {
-    let mode = mode(table);
-    match mode {
+    match mode(table) {
         Mode::Alone => 0 < listed_len(table, rows),
-        Mode::Lead => any_clean(table, rows),
-        Mode::Standby => any_clean(table, rows),
+        Mode::Lead | Mode::Standby => any_clean(table, rows),
     }
 }
 
@@ -31,8 +29,7 @@ pub fn no_row(table: &[u64], rows: usize) -> bool
     if has_free(table, rows) {
         return false;
     }
-    let s = settings(table);
-    if !s.evictions {
+    if !settings(table).evictions {
         return true;
     }
     !any_evictable(table, rows)

@@ -1,6 +1,6 @@
 -- Settings taken: the maximum they give is in their range, and the counters restart.
-use Rattle.std.specs.Prelude.{if◌then◌else◌}
-use Prim.Native.Nat.{ℕ, ◌≤◌, min, max}
+use Rattle.std.specs.Prelude.{if◌then◌else◌, Option}
+use Prim.Native.Nat.{ℕ, ◌≤◌}
 use mathlib.Core.Bool.{false}
 use mathlib.Core.List.{List}
 use mathlib.Core.Path.{◌≡◌, ap, ap₂, subst, ◌∙◌}
@@ -9,7 +9,6 @@ use lib.ListN.{length}
 use Rattle.settings.specs.Validation.{first_bad}
 use Rattle.settings.specs.declared.Settings.{Settings}
 use Rattle.rules.proofs.Figures.{configured_range}
-use Rattle.rules.proofs.Tests.{choose, either}
 use Rattle.rules.specs.Cache.{Cache, start, with_settings, with_maximum, restart}
 use Rattle.rules.specs.Limits.{count_stop}
 use Rattle.rules.specs.Refusals.{too_few_words}
@@ -28,11 +27,6 @@ use Rattle.room.proofs.Orders.{words_fit}
 use Rattle.room.specs.Did.{Fits}
 use Rattle.table.specs.Asked.{Settable}
 
--- with no initial size: up to the smallest, and down to the largest
-pub brought_by : (s : Settings) (maximum up n : ℕ) → s.preset ≡ false → up ≡ max maximum s.smallest → n ≡ min up s.largest
-    → n ≡ (if s.preset then s.initial else brought maximum s)
-brought_by s maximum up n f p q = choose (λ (m : ℕ). n ≡ m) s.preset (λ t. either s.preset t f) (λ t. q ∙ ap (λ (m : ℕ). min m s.largest) p)
-
 -- n is the new maximum, by the maximum that was read
 module _ (s : Settings) (c : Cache) (maximum n : ℕ) (p : maximum ≡ c.maximum) (e : n ≡ (if s.preset then s.initial else brought maximum s)) where
   maximum_is : n ≡ (configured s c).maximum
@@ -48,7 +42,7 @@ module _ (s : Settings) (c : Cache) (maximum n : ℕ) (p : maximum ≡ c.maximum
   configured_held {mid} {out} {rest} h k = subst (λ (m : ℕ). Holds out (restart (with_maximum m (with_settings s c))) rest) maximum_is (onward restart h k)
 
   -- and the change of the maximum by it
-  pub change_told : {y : Change} → y ≡ set_to n s maximum → y ≡ change_of (settings_change s c)
+  pub change_told : {y : Option Change} → y ≡ set_to n s maximum → y ≡ change_of (settings_change s c)
   change_told i = i ∙ ap₂ (λ (m k : ℕ). set_to m s k) maximum_is p ∙ change_unless cause.Settings (settings_bound s c.maximum) (eqb (configured s c).maximum c.maximum)
 
 -- the orders that can come for the table that the settings left

@@ -17,7 +17,7 @@ ghost use Rattle.room.specs.Did.{Did};
 use reason_rules::Change;
 use reasons::change::set_to;
 use reasons::runs::{Done, room_alone};
-use room::{Held, make_room};
+use room::make_room;
 use settings::Settings;
 use table::header::{maximum, restart, row_count, set_settings};
 
@@ -26,13 +26,14 @@ fn configured_maximum(s: Settings, maximum: u64) -> u64
     ensures { result ≡ (if s.preset then s.initial else brought maximum s) }
 {
     if s.preset {
-        return s.initial;
+        s.initial
+    } else {
+        maximum.max(s.smallest).min(s.largest)
     }
-    new_maximum::least(new_maximum::most(maximum, s.smallest), s.largest)
 }
 
 // The settings with their maximum, and the counters restarted; the answer is the change of the maximum.
-fn set_all(table: &mut [u64], s: Settings) -> Change
+fn set_all(table: &mut [u64], s: Settings) -> Option<Change>
     requires { Good table.old × (first_bad s false ≡ 0) }
     ensures holds { Holds table.new (configured s (cache_in table.old)) (rest_in table.old) }
     ensures change { result ≡ change_of (settings_change s (cache_in table.old)) }
@@ -51,11 +52,10 @@ pub fn configure(table: &mut [u64], orders: &mut [u64], s: Settings) -> Done
 {
     let rows = row_count(table);
     let change = set_all(table, s);
-    let made = make_room(table, orders, rows, 0, false, 0, Held::Unknown);
-    let runs = room_alone(made.runs);
+    let made = make_room(table, orders, rows, 0, false, 0, None);
     Done {
         given: made.given,
-        runs,
+        runs: room_alone(made.runs),
         change,
     }
 }

@@ -15,14 +15,14 @@ use table::header::row_count;
 use table::lookup::{Found, recency_place};
 
 // An address that is not in the cache is accepted without effect.
-pub fn discard(table: &mut [u64], found: Found, address: u64)
+pub fn discard(table: &mut [u64], found: Option<Found>, address: u64)
     requires { Unrefused table.old (asking (Discard address) [] 0) × (found ≡ found_in (cache_in table.old).rows address) }
     ensures { Holds table.new (effect (cache_in table.old) [] (Discard address)).cache (rest_in table.old) }
 {
     let rows = row_count(table);
-    let Found::At { place, row } = found else {
+    let Some(at) = found else {
         return;
     };
-    let pos = recency_place(table, rows, row, address);
-    drop_entry(table, rows, address, pos, place, row);
+    let pos = recency_place(table, rows, at.row, address);
+    drop_entry(table, rows, address, pos, at.place, at.row);
 }

@@ -1,5 +1,5 @@
 // Entries.
-ghost use Rattle.std.specs.Prelude.{◌≡◌, ◌+◌, min, if◌then◌else◌};
+ghost use Rattle.std.specs.Prelude.{◌≡◌, ◌+◌, min};
 ghost use Rattle.rules.specs.Allowed.{HoldAllowed};
 ghost use Rattle.rules.specs.Entries.{is_held, is_listed, cleaned, changed_to, with_pin, protected_for, released, new_entry};
 ghost use Rattle.rules.specs.Limits.{most_idle};
@@ -14,8 +14,7 @@ const MOST_IDLE: u64 = 10;
 pub fn is_listed(e: Entry) -> bool
     ensures { result ≡ is_listed e }
 {
-    let hold = e.hold;
-    !is_held(hold) & !e.pinned
+    !is_held(e.hold) & !e.pinned
 }
 
 // A new entry, with idle count 0 and not pinned.
@@ -36,44 +35,24 @@ pub fn new_entry(address: u64, size: u64, dirty: bool, hold: Hold) -> Entry
 pub fn cleaned(e: Entry) -> Entry
     ensures { result ≡ cleaned e }
 {
-    let hold = e.hold;
-    Entry {
-        address: e.address,
-        size: e.size,
-        dirty: false,
-        idle: e.idle,
-        pinned: e.pinned,
-        hold,
-    }
+    Entry { dirty: false, ..e }
 }
 
 // With another size, and dirty.
 pub fn changed_to(size: u64, e: Entry) -> Entry
     ensures { result ≡ changed_to size e }
 {
-    let hold = e.hold;
     Entry {
-        address: e.address,
         size,
         dirty: true,
-        idle: e.idle,
-        pinned: e.pinned,
-        hold,
+        ..e
     }
 }
 
 pub fn with_pin(pinned: bool, e: Entry) -> Entry
     ensures { result ≡ with_pin pinned e }
 {
-    let hold = e.hold;
-    Entry {
-        address: e.address,
-        size: e.size,
-        dirty: e.dirty,
-        idle: e.idle,
-        pinned,
-        hold,
-    }
+    Entry { pinned, ..e }
 }
 
 // Protected once more.
@@ -81,49 +60,25 @@ pub fn protected_for(access: Access, e: Entry) -> Entry
     requires { HoldAllowed e.hold }
     ensures { result ≡ protected_for access e }
 {
-    let before = e.hold;
-    let hold = joined(access, before);
     Entry {
-        address: e.address,
-        size: e.size,
-        dirty: e.dirty,
         idle: 0,
-        pinned: e.pinned,
-        hold,
+        hold: joined(access, e.hold),
+        ..e
     }
-}
-
-// The idle count that a release leaves.
-fn idle_after(hold: Hold, idle: u64) -> u64
-    ensures { result ≡ (if is_held hold then idle else 0) }
-{
-    if is_held(hold) { idle } else { 0 }
 }
 
 // One hold less; the last to go sets the idle count to 0.
 pub fn released(e: Entry) -> Entry
     ensures { result ≡ released e }
 {
-    let before = e.hold;
-    let hold = less_one(before);
-    let idle = idle_after(hold, e.idle);
-    Entry {
-        address: e.address,
-        size: e.size,
-        dirty: e.dirty,
-        idle,
-        pinned: e.pinned,
-        hold,
-    }
+    let hold = less_one(e.hold);
+    let idle = if is_held(hold) { e.idle } else { 0 };
+    Entry { idle, hold, ..e }
 }
 
 // An epoch older.
 pub fn older(idle: u64) -> u64
     ensures { result ≡ min (idle + 1) most_idle }
 {
-    if idle < MOST_IDLE {
-        idle + 1
-    } else {
-        MOST_IDLE
-    }
+    idle.saturating_add(1).min(MOST_IDLE)
 }

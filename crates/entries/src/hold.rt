@@ -2,8 +2,6 @@
 ghost use Rattle.std.specs.Prelude.{◌≡◌};
 ghost use Rattle.rules.specs.Entries.{is_held, is_read, is_written, forbids, joined, less_one};
 ghost use Rattle.rules.specs.Allowed.{HoldAllowed};
-ghost use Rattle.rules.specs.declared.entry.Hold.TheVariants.{Readers};
-ghost use Rattle.rules.specs.declared.request.Access.TheVariants.{Reading};
 
 use rules::entry::Hold;
 use rules::request::Access;
@@ -13,65 +11,31 @@ const MOST_READERS: u64 = 65535;
 pub fn is_held(h: Hold) -> bool
     ensures { result ≡ is_held h }
 {
-    match h {
-        Hold::Unheld => false,
-        Hold::Readers(_) => true,
-        Hold::Writer => true,
-    }
+    !matches!(h, Hold::Unheld)
 }
 
 // Held by readers.
 pub fn is_read(h: Hold) -> bool
     ensures { result ≡ is_read h }
 {
-    match h {
-        Hold::Unheld => false,
-        Hold::Readers(_) => true,
-        Hold::Writer => false,
-    }
+    matches!(h, Hold::Readers(_))
 }
 
 // Held for writing.
 pub fn is_written(h: Hold) -> bool
     ensures { result ≡ is_written h }
 {
-    match h {
-        Hold::Unheld => false,
-        Hold::Readers(_) => false,
-        Hold::Writer => true,
-    }
+    matches!(h, Hold::Writer)
 }
 
-// A further reader is refused at 65,535.
-fn forbids_beside(readers: u64, access: Access) -> bool
-    ensures { result ≡ forbids (Readers readers) access }
-{
-    match access {
-        Access::Reading => MOST_READERS <= readers,
-        Access::Writing => true,
-    }
-}
-
-// Whether the hold forbids one more.
+// Whether the hold forbids one more: a further reader is refused at 65,535.
 pub fn forbids(h: Hold, access: Access) -> bool
     ensures { result ≡ forbids h access }
 {
-    match h {
-        Hold::Unheld => false,
-        Hold::Readers(n) => forbids_beside(n, access),
-        Hold::Writer => true,
-    }
-}
-
-// A reader more.
-fn with_reader(h: Hold) -> Hold
-    requires { HoldAllowed h }
-    ensures { result ≡ joined Reading h }
-{
-    match h {
-        Hold::Unheld => Hold::Readers(1),
-        Hold::Readers(n) => Hold::Readers(n + 1),
-        Hold::Writer => Hold::Writer,
+    match (h, access) {
+        (Hold::Unheld, _) => false,
+        (Hold::Readers(n), Access::Reading) => MOST_READERS <= n,
+        (Hold::Readers(_), Access::Writing) | (Hold::Writer, _) => true,
     }
 }
 
@@ -80,20 +44,11 @@ pub fn joined(access: Access, h: Hold) -> Hold
     requires { HoldAllowed h }
     ensures { result ≡ joined access h }
 {
-    match access {
-        Access::Reading => with_reader(h),
-        Access::Writing => Hold::Writer,
+    match (access, h) {
+        (Access::Reading, Hold::Unheld) => Hold::Readers(1),
+        (Access::Reading, Hold::Readers(n)) => Hold::Readers(n + 1),
+        (Access::Reading, Hold::Writer) | (Access::Writing, _) => Hold::Writer,
     }
-}
-
-// One reader less.
-fn less_reader(n: u64) -> Hold
-    ensures { result ≡ less_one (Readers n) }
-{
-    if n <= 1 {
-        return Hold::Unheld;
-    }
-    Hold::Readers(n - 1)
 }
 
 // One hold less.
@@ -101,8 +56,7 @@ pub fn less_one(h: Hold) -> Hold
     ensures { result ≡ less_one h }
 {
     match h {
-        Hold::Unheld => Hold::Unheld,
-        Hold::Readers(n) => less_reader(n),
-        Hold::Writer => Hold::Unheld,
+        Hold::Unheld | Hold::Readers(0..=1) | Hold::Writer => Hold::Unheld,
+        Hold::Readers(n) => Hold::Readers(n - 1),
     }
 }

@@ -5,7 +5,7 @@ ghost use Rattle.rules.specs.Refusals.{bad_address, bad_size, is_alone, is_stand
 
 use settings::Mode;
 
-const ALL_ONES: u64 = 0xffff_ffff_ffff_ffff;
+const ALL_ONES: u64 = u64::MAX;
 
 const MOST_SIZE: u64 = 134217728;
 
@@ -36,31 +36,19 @@ pub fn too_few_words(rows: usize, lent: usize) -> bool
 pub fn is_alone(mode: Mode) -> bool
     ensures { result ≡ is_alone mode }
 {
-    match mode {
-        Mode::Alone => true,
-        Mode::Lead => false,
-        Mode::Standby => false,
-    }
+    mode == Mode::Alone
 }
 
 pub fn is_standby(mode: Mode) -> bool
     ensures { result ≡ is_standby mode }
 {
-    match mode {
-        Mode::Alone => false,
-        Mode::Lead => false,
-        Mode::Standby => true,
-    }
+    mode == Mode::Standby
 }
 
 pub fn is_lead(mode: Mode) -> bool
     ensures { result ≡ is_lead mode }
 {
-    match mode {
-        Mode::Alone => false,
-        Mode::Lead => true,
-        Mode::Standby => false,
-    }
+    mode == Mode::Lead
 }
 
 // The dirty-byte threshold by default.
@@ -75,8 +63,5 @@ pub fn count_with(size: u64, count: u64) -> u64
     requires { size ≤ most_size }
     ensures { result ≡ min (count + size) count_stop }
 {
-    if COUNT_STOP - size <= count {
-        return COUNT_STOP;
-    }
-    count + size
+    count.saturating_add(size).min(COUNT_STOP)
 }

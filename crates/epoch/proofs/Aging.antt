@@ -1,9 +1,8 @@
 -- The loop of age-out: what the rule does from a place on is what it does from the start.
-use Rattle.std.specs.Prelude.{if◌then◌else◌}
+use Rattle.std.specs.Prelude.{if◌then◌else◌, Option, Some, option_map, None}
 use Prim.Native.Nat.{ℕ, suc, ◌+◌, ◌-◌, ◌<◌, ◌≤◌}
 use mathlib.Core.Bool.{Bool, true, false, true≢false}
 use mathlib.Core.List.{List, []}
-use mathlib.Core.Option.{Option, none, some, map}
 use mathlib.Core.Path.{◌≡◌, refl, sym, ap, subst, ◌∙◌}
 use native.Mathlib.Numerals.{add-one}
 use native.Mathlib.Omega.{arith}
@@ -20,7 +19,7 @@ use Rattle.rules.specs.Resizing.{aged_at, expel, evict_aged}
 use Rattle.rules.specs.Room.{evict, write_in_place}
 use Rattle.rules.specs.Rows.{get, passes, amend, dirty_at, size_at}
 use Rattle.rules.specs.declared.entry.Entry.{Entry}
-use Rattle.rules.specs.declared.entry.Row.{Row}
+use Rattle.rules.specs.Types.{Row}
 use Rattle.rules.specs.declared.order.Kind.{Kind}
 use Rattle.rules.specs.declared.order.Order.{Order}
 use Rattle.settings.specs.declared.Mode.{Mode}
@@ -36,7 +35,7 @@ use Rattle.room.specs.Did.{Did, Fits}
 -- ---- one entry
 
 -- the test of an entry's age, once the entry is read
-pub told_aged : (o : Option Entry) (e : Entry) (n : ℕ) → o ≡ some e → leb n e.idle ≡ passes (λ x. leb n x.idle) o
+pub told_aged : (o : Option Entry) (e : Entry) (n : ℕ) → o ≡ Some e → leb n e.idle ≡ passes (λ x. leb n x.idle) o
 told_aged o e n p = rw p
 
 -- a clean entry is evicted in every mode
@@ -59,22 +58,22 @@ expel_written Standby a w h d = absurd (true≢false (sym h))
 
 -- a write keeps the idle count, and the entry is clean then
 module _ (a : ℕ) (rows : List Row) where
-  written : get (amend a cleaned rows) a ≡ map cleaned (get rows a)
-  written = get_amend a cleaned (λ e. refl) a rows ∙ ap (λ (b : Bool). if b then map cleaned (get rows a) else get rows a) (eq-eqb a a refl)
+  written : get (amend a cleaned rows) a ≡ option_map cleaned (get rows a)
+  written = get_amend a cleaned (λ e. refl) a rows ∙ ap (λ (b : Bool). if b then option_map cleaned (get rows a) else get rows a) (eq-eqb a a refl)
 
   written_aged : (n : ℕ) → passes (λ e. leb n e.idle) (get (amend a cleaned rows) a) ≡ passes (λ e. leb n e.idle) (get rows a)
   written_aged n = ap (passes (λ e. leb n e.idle)) written ∙ go (get rows a)
     where
-      go : (o : Option Entry) → passes (λ e. leb n e.idle) (map cleaned o) ≡ passes (λ e. leb n e.idle) o
-      go none = refl
-      go (some e) = refl
+      go : (o : Option Entry) → passes (λ e. leb n e.idle) (option_map cleaned o) ≡ passes (λ e. leb n e.idle) o
+      go None = refl
+      go (Some e) = refl
 
   written_clean : dirty_at (amend a cleaned rows) a ≡ false
   written_clean = ap (passes (λ e. e.dirty)) written ∙ go (get rows a)
     where
-      go : (o : Option Entry) → passes (λ e. e.dirty) (map cleaned o) ≡ false
-      go none = refl
-      go (some e) = refl
+      go : (o : Option Entry) → passes (λ e. e.dirty) (option_map cleaned o) ≡ false
+      go None = refl
+      go (Some e) = refl
 
 -- ---- the rule's steps
 

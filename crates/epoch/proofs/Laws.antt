@@ -1,5 +1,6 @@
 -- The end of an epoch: each step's table lets the next begin, and all steps together are the rule.
-use Rattle.std.specs.Prelude.{if◌then◌else◌}
+use Rattle.std.specs.Prelude.{if◌then◌else◌, None, Some}
+use mir.Val.{bool_byte}
 use Prim.Native.Nat.{ℕ, ◌+◌, ◌≤◌, ◌<◌, min, max}
 use mathlib.Core.Bool.{Bool, true, false, ◌&&◌, ◌||◌}
 use mathlib.Core.List.{List, append-nil}
@@ -10,8 +11,7 @@ use lib.Ieee.{Float, lt, eq}
 use lib.ListN.{length}
 use borrow.Author.Tests.{ltb-true, ltb-false, leb-true, leb-false}
 use Rattle.fraction.specs.Fraction.{decimal, size_product, hit_rate, reserve_quotient}
-use Rattle.settings.specs.declared.Cap.{Cap}
-use Rattle.settings.specs.declared.Cap.TheVariants as cap
+use Rattle.settings.specs.Types.{Cap}
 use Rattle.settings.specs.declared.Decrease.{Decrease}
 use Rattle.settings.specs.declared.Decrease.TheVariants as decrease
 use Rattle.settings.specs.declared.Increase.{Increase}
@@ -40,8 +40,8 @@ use Rattle.room.specs.Did.{Did, Fits}
 -- ---- the maximum lowered
 
 at_least_above : (k : Cap) (m n : ℕ) → n ≤ at_least k m n
-at_least_above cap.None m n = omega arith
-at_least_above (cap.Upto b) m n = omega arith
+at_least_above None m n = omega arith
+at_least_above (Some b) m n = omega arith
 
 module _ (c : Cache) (target : ℕ) (s : Settings) (maximum n : ℕ) (p : s ≡ c.settings) (q : maximum ≡ c.maximum) (e : n ≡ lowered target s.decrement maximum s.smallest) where
   pub lower_is : n ≡ lowered_in target c
@@ -71,8 +71,8 @@ increase_most increase.Off k r full m l h = h
 increase_most (increase.Threshold x y) k r full m l h = choose (λ (n : ℕ). n ≤ l) (is_below r x && full) (λ p. go k) (λ p. h)
   where
     go : (k : Cap) → at_most k m (min (size_product m y) l) ≤ l
-    go cap.None = omega arith
-    go (cap.Upto n) = omega arith
+    go None = omega arith
+    go (Some n) = omega arith
 
 pub increased_most : (c : Cache) (rate : Float) (n : ℕ) → n ≡ increased_in rate c → c.maximum ≤ c.settings.largest → n ≤ c.settings.largest
 increased_most c rate n e l = rw e (increase_most c.settings.increase c.settings.increment rate (is_full c) c.maximum c.settings.largest l)
@@ -199,6 +199,10 @@ module _ {table lent table₁ words₁ : List ℕ} {rows before given : ℕ} (g 
 
 pub counts_is : (c : Cache) (s : Settings) (i d : Bool) → s ≡ c.settings → i ≡ increases s.increase → d ≡ decreases s.decrease → i || d ≡ counts c.settings
 counts_is c s i d p q r = ap₂ (λ (x y : Bool). x || y) q r ∙ ap counts p
+
+pub one_if : (hit : Bool) → bool_byte hit ≡ (if hit then 1 else 0)
+one_if true = refl
+one_if false = refl
 
 pub one_most : (hit : Bool) (n : ℕ) → n ≡ (if hit then 1 else 0) → n ≤ 1
 one_most true n e = omega arith

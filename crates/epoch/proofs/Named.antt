@@ -1,5 +1,5 @@
 -- The changes and reasons that the steps of an epoch's end tell are the rules'.
-use Rattle.std.specs.Prelude.{if◌then◌else◌}
+use Rattle.std.specs.Prelude.{if◌then◌else◌, Option, None, Some}
 use Prim.Native.Nat.{ℕ, ◌+◌, ◌-◌, ◌≤◌, ◌<◌}
 use mathlib.Core.Bool.{Bool, true, false, ◌&&◌}
 use mathlib.Core.List.{List, [], ◌++◌}
@@ -21,7 +21,6 @@ use Rattle.reason_rules.specs.declared.Bound.{Bound}
 use Rattle.reason_rules.specs.declared.Cause.{Cause}
 use Rattle.reason_rules.specs.declared.Cause.TheVariants as cause
 use Rattle.reason_rules.specs.declared.Change.{Change}
-use Rattle.reason_rules.specs.declared.Change.TheVariants as change
 use Rattle.reason_rules.specs.declared.Reason.{Reason}
 use Rattle.reason_rules.specs.declared.Reason.TheVariants as reason
 use Rattle.reason_rules.specs.Bounds.{rise_bound}
@@ -44,7 +43,7 @@ pub fell_named : (c : Cache) (target : ℕ) (s : Settings) (maximum n : ℕ) (x 
 fell_named c target s maximum n x p q e =
     rw (lower_is c target s maximum n p q e, p, q) (change_if x _ (ltb (lowered_in target c) c.maximum))
 
-pub scaled_named : (c : Cache) (maximum target : ℕ) (m : Float) {r : Change} → maximum ≡ c.maximum → target ≡ size_product maximum m
+pub scaled_named : (c : Cache) (maximum target : ℕ) (m : Float) {r : Option Change} → maximum ≡ c.maximum → target ≡ size_product maximum m
     → r ≡ change_of (fall_change cause.Threshold target c) → r ≡ change_of (fall_change cause.Threshold (size_product c.maximum m) c)
 scaled_named c maximum target m p e h = h ∙ ap (λ (i : ℕ). change_of (fall_change cause.Threshold i c)) (e ∙ ap (λ (i : ℕ). size_product i m) p)
 
@@ -54,10 +53,10 @@ module _ (n : ℕ) (reserve : Float) (table : List ℕ) where
   abbrev aged_in : Work
   aged_in = evict_aged n (cache_in table).recency (start (cache_in table))
 
-  pub out_same : eq reserve (decimal 1 1) ≡ true → change.Same ≡ change_of (age_out_change n reserve (start (cache_in table)))
+  pub out_same : eq reserve (decimal 1 1) ≡ true → None ≡ change_of (age_out_change n reserve (start (cache_in table)))
   out_same e = ap change_of (sym (if_true (eq reserve (decimal 1 1)) [] _ e))
 
-  pub out_named : {table₁ lent words : List ℕ} {before given : ℕ} (h target : ℕ) {r : Change} → eq reserve (decimal 1 1) ≡ false
+  pub out_named : {table₁ lent words : List ℕ} {before given : ℕ} (h target : ℕ) {r : Option Change} → eq reserve (decimal 1 1) ≡ false
       → Did aged_in (rest_in table) table₁ before lent words given → h ≡ held (cache_in table₁) → target ≡ reserve_quotient h reserve
       → r ≡ change_of (fall_change cause.AgeOut target (cache_in table₁)) → r ≡ change_of (age_out_change n reserve (start (cache_in table)))
   out_named {table₁} h target e d p q k =
@@ -67,8 +66,8 @@ module _ (n : ℕ) (reserve : Float) (table : List ℕ) where
 
 -- ---- the decrease
 
-module _ (rule : Decrease) (rate : Float) (w : Work) {r : Change} where
-  pub off_named : rule ≡ decrease.Off → r ≡ change.Same → r ≡ change_of (decrease_change rule rate w)
+module _ (rule : Decrease) (rate : Float) (w : Work) {r : Option Change} where
+  pub off_named : rule ≡ decrease.Off → r ≡ None → r ≡ change_of (decrease_change rule rate w)
   off_named e p = rw e p
 
   module _ {upper multiplier : Float} (e : rule ≡ decrease.Threshold upper multiplier) where
@@ -76,7 +75,7 @@ module _ (rule : Decrease) (rate : Float) (w : Work) {r : Change} where
         → r ≡ change_of (decrease_change rule rate w)
     threshold_named a p = rw e (p ∙ ap change_of (sym (if_true (lt upper rate) _ [] a)))
 
-    pub threshold_same : lt upper rate ≡ false → r ≡ change.Same → r ≡ change_of (decrease_change rule rate w)
+    pub threshold_same : lt upper rate ≡ false → r ≡ None → r ≡ change_of (decrease_change rule rate w)
     threshold_same a p = rw e (p ∙ ap change_of (sym (if_false (lt upper rate) _ [] a)))
 
   pub ages_named : {epochs : ℕ} {reserve : Float} → rule ≡ decrease.AgeOut epochs reserve → r ≡ change_of (age_out_change epochs reserve w)
@@ -87,7 +86,7 @@ module _ (rule : Decrease) (rate : Float) (w : Work) {r : Change} where
     pub above_named : lt upper rate ≡ true → r ≡ change_of (age_out_change epochs reserve w) → r ≡ change_of (decrease_change rule rate w)
     above_named a p = rw e (p ∙ ap change_of (sym (if_true (lt upper rate) _ [] a)))
 
-    pub above_same : lt upper rate ≡ false → r ≡ change.Same → r ≡ change_of (decrease_change rule rate w)
+    pub above_same : lt upper rate ≡ false → r ≡ None → r ≡ change_of (decrease_change rule rate w)
     above_same a p = rw e (p ∙ ap change_of (sym (if_false (lt upper rate) _ [] a)))
 
 -- ---- both steps
@@ -97,12 +96,12 @@ pub bound_is : (c : Cache) (s : Settings) (maximum : ℕ) → s ≡ c.settings �
 bound_is c s maximum p q = rw (p, q)
 
 module _ (c : Cache) (rate : Float) (maximum n : ℕ) (p : maximum ≡ c.maximum) (e : n ≡ increased_in rate c) where
-  pub rise_named : {b : Bound} → maximum < n → b ≡ increase_bound c → change.To cause.Increase b ≡ change_of (resize_change rate (start c))
+  pub rise_named : {b : Option Bound} → maximum < n → b ≡ increase_bound c → Some (record { cause = cause.Increase; bound = b }) ≡ change_of (resize_change rate (start c))
   unfolding resize_change
   rise_named l q =
-      ap (change.To cause.Increase) q ∙ ap change_of (sym (if_true (ltb c.maximum (increased_in rate c)) _ _ (lt-ltb c.maximum (increased_in rate c) (omega arith))))
+      ap (λ (d : Option Bound). Some (record { cause = cause.Increase; bound = d })) q ∙ ap change_of (sym (if_true (ltb c.maximum (increased_in rate c)) _ _ (lt-ltb c.maximum (increased_in rate c) (omega arith))))
 
-  pub rest_named : {r : Change} → n ≤ maximum → (s : Settings) → s ≡ c.settings → r ≡ change_of (decrease_change s.decrease rate (start c))
+  pub rest_named : {r : Option Change} → n ≤ maximum → (s : Settings) → s ≡ c.settings → r ≡ change_of (decrease_change s.decrease rate (start c))
       → r ≡ change_of (resize_change rate (start c))
   unfolding resize_change
   rest_named l s q k =
@@ -111,7 +110,7 @@ module _ (c : Cache) (rate : Float) (maximum n : ℕ) (p : maximum ≡ c.maximum
 
 -- ---- the end of an epoch
 
-pub rate_named : (c : Cache) (rate : Float) (h a : ℕ) {r : Change} → h ≡ c.hits → a ≡ c.accesses → rate ≡ hit_rate h a → r ≡ change_of (resize_change rate (start c))
+pub rate_named : (c : Cache) (rate : Float) (h a : ℕ) {r : Option Change} → h ≡ c.hits → a ≡ c.accesses → rate ≡ hit_rate h a → r ≡ change_of (resize_change rate (start c))
     → r ≡ change_of (epoch_change c)
 rate_named c rate h a p q e k = k ∙ ap (λ (x : Float). change_of (resize_change x (start c))) (e ∙ ap₂ (λ (i j : ℕ). hit_rate i j) p q)
 
@@ -130,18 +129,18 @@ module _ (table : List ℕ) {lent table₁ words₁ table₂ table₃ : List ℕ
 
 -- ---- counting
 
-abbrev CountNamed : Bool → Cache → List Reason → Change → Type 0
+abbrev CountNamed : Bool → Cache → List Reason → Option Change → Type 0
 CountNamed hit c l r = (l ≡ count_reasons hit (start c)) × (r ≡ change_of (count_change hit (start c)))
 
-module _ (hit : Bool) (c : Cache) {l : List Reason} {r : Change} where
-  no_epoch : ends_epoch c ≡ false → l ≡ [] → r ≡ change.Same → CountNamed hit c l r
+module _ (hit : Bool) (c : Cache) {l : List Reason} {r : Option Change} where
+  no_epoch : ends_epoch c ≡ false → l ≡ [] → r ≡ None → CountNamed hit c l r
   no_epoch e p q = (p ∙ sym (if_false (ends_epoch c) _ [] e), q ∙ ap change_of (sym (if_false (ends_epoch c) _ [] e)))
 
-  pub uncounted : counts c.settings ≡ false → l ≡ [] → r ≡ change.Same → CountNamed hit c l r
+  pub uncounted : counts c.settings ≡ false → l ≡ [] → r ≡ None → CountNamed hit c l r
   uncounted e p q = no_epoch (ap (λ (b : Bool). b && leb c.settings.epoch (c.accesses + 1)) e) p q
 
   module _ (n h : ℕ) (e : n ≡ c.accesses + 1) (f : h ≡ c.hits + (if hit then 1 else 0)) {table₁ rest : List ℕ} (k : Holds table₁ (with_counters n h c) rest) where
-    pub counted_early : n < c.settings.epoch → l ≡ [] → r ≡ change.Same → CountNamed hit c l r
+    pub counted_early : n < c.settings.epoch → l ≡ [] → r ≡ None → CountNamed hit c l r
     counted_early i p q =
         no_epoch
         (ap (λ (b : Bool). counts c.settings && b) (lt-leb c.settings.epoch (c.accesses + 1) (omega arith)) ∙ and_false (counts c.settings)) p q

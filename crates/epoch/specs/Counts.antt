@@ -1,5 +1,5 @@
 -- What counting an access tells.
-use Rattle.std.specs.Prelude.{List, ◌++◌, replicate}
+use Rattle.std.specs.Prelude.{List, ◌++◌, replicate, Option}
 use Rattle.rules.specs.Cache.{Cache, start}
 use Rattle.reason_rules.specs.declared.Bound.{Bound}
 use Rattle.reason_rules.specs.declared.Change.{Change}
@@ -15,7 +15,7 @@ abbrev pub aged_runs : Counted → List Reason
 aged_runs r = replicate r.aged reason.Aged ++ room_runs r.again
 
 -- The bound of an increase.
-abbrev pub increase_bound : Cache → Bound
+abbrev pub increase_bound : Cache → Option Bound
 increase_bound c = rise_bound c.settings.increment (increase_raw c.settings.increase c.maximum) c.maximum c.settings.largest
 
 -- The change at the end of an epoch.

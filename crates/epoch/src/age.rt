@@ -25,7 +25,8 @@ fn aged_at(table: &[u64], rows: usize, pos: usize, epochs: u64) -> bool
     epochs <= e.idle
 }
 
-// From tail to head, clean entries that aged out are evicted; dirty ones are written first, or kept.
+// From tail to head, clean entries that aged out are evicted; dirty ones are written first, or kept. Only one that is kept moves the
+// place on, and each that goes shortens the list, so this is no range.
 fn expel(
     table: &mut [u64],
     orders: &mut [u64],

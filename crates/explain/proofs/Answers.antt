@@ -1,16 +1,14 @@
 -- What an explained request comes to: what the step comes to, with the rules' reasons and change, or a refusal that names none.
-use Rattle.std.specs.Prelude.{if◌then◌else◌}
+use Rattle.std.specs.Prelude.{if◌then◌else◌, Option, None, Some, Err}
 use Prim.Native.Nat.{ℕ, ◌+◌, ◌*◌, ◌≤◌}
 use mathlib.Core.Bool.{Bool, true, false, ◌&&◌, true≢false}
 use mathlib.Core.List.{List, []}
-use mathlib.Core.Option.{Option, none, some}
 use mathlib.Core.Path.{◌≡◌, refl, sym, ap, ap₂, ◌∙◌}
 use native.Mathlib.Omega.{arith}
 use lib.Dec.{ltb}
 use lib.ListN.{length}
 use borrow.Author.Tests.{ltb-false}
-use Rattle.rules.specs.declared.answer.Answer.{Answer}
-use Rattle.rules.specs.declared.answer.Answer.TheVariants.{Refused}
+use Rattle.rules.specs.Types.{Answer}
 use Rattle.rules.specs.declared.answer.Refusal.{Refusal}
 use Rattle.rules.specs.declared.answer.Refusal.TheVariants as refusal
 use Rattle.rules.specs.declared.request.Request.{Request}
@@ -24,7 +22,6 @@ use Rattle.rules.specs.Requests.{Outcome, effect, step, judged}
 use Rattle.reason_rules.proofs.Choices.{if_true, if_false}
 use Rattle.reason_rules.proofs.Courses.{as_ever, reasons_fit}
 use Rattle.reason_rules.specs.declared.Change.{Change}
-use Rattle.reason_rules.specs.declared.Change.TheVariants as change
 use Rattle.reason_rules.specs.declared.Reason.{Reason}
 use Rattle.reason_rules.specs.Reasons.{too_few_reasons, refusal_of_explain, granted, reasons_of, changes_of, explain}
 use Rattle.reasons.specs.Changes.{change_of}
@@ -36,11 +33,11 @@ use Rattle.cache.specs.Tables.{Left, left, carried_out, step_words}
 use Rattle.explain.proofs.Put.{put_none}
 use Rattle.explain.specs.Explanation.{Explanation, reason_words, explain_words}
 
-abbrev pub made : Left → List ℕ → Change → Explanation
+abbrev pub made : Left → List ℕ → Option Change → Explanation
 made l reasons x = record { left = l; reasons = reasons; change = x }
 
 -- equal in each part
-same_parts : {l m : Left} {is js : List ℕ} {x y : Change} → l ≡ m → is ≡ js → x ≡ y → made l is x ≡ made m js y
+same_parts : {l m : Left} {is js : List ℕ} {x y : Option Change} → l ≡ m → is ≡ js → x ≡ y → made l is x ≡ made m js y
 same_parts p q r = λ i. record { left = p i; reasons = q i; change = r i }
 
 -- a request that can't give orders has no reasons
@@ -60,8 +57,8 @@ unordered c Take h = refl
 unordered c (Configure s) h = absurd (true≢false h)
 
 none_granted : (o : Option Refusal) {l : List Reason} → l ≡ [] → granted o l ≡ []
-none_granted none e = e
-none_granted (some x) e = refl
+none_granted None e = e
+none_granted (Some x) e = refl
 
 -- the test of the reason words, by the number of rows that was read
 pub few_is : (ws rs : List ℕ) (r : Request) {rows : ℕ} {t : Bool} → rows ≡ length (cache_in ws).rows → (can_order r && ltb (length rs) (2 * rows + 1)) ≡ t
@@ -69,7 +66,7 @@ pub few_is : (ws rs : List ℕ) (r : Request) {rows : ℕ} {t : Bool} → rows �
 few_is ws rs r e h = ap (λ (n : ℕ). can_order r && ltb (length rs) (2 * n + 1)) (sym e) ∙ h
 
 module _ (ws os rs message : List ℕ) (r : Request) where
-  pub explain_damaged : {a : Answer} {x : Change} → judge_words ws ≡ false → a ≡ Refused refusal.Table → x ≡ change.Same
+  pub explain_damaged : {a : Answer} {x : Option Change} → judge_words ws ≡ false → a ≡ Err refusal.Table → x ≡ None
       → made (left a ws os) rs x ≡ explain_words ws os rs message r
   unfolding explain_words
   explain_damaged v p q = rw (v, p, q)
@@ -82,7 +79,7 @@ module _ (ws os rs message : List ℕ) (r : Request) where
     few = too_few_reasons (cache_in ws) r (length rs)
 
     -- too few reason words
-    pub explain_few : few ≡ true → {a : Answer} {x : Change} → a ≡ Refused refusal.OrderWords → x ≡ change.Same
+    pub explain_few : few ≡ true → {a : Answer} {x : Option Change} → a ≡ Err refusal.OrderWords → x ≡ None
         → made (left a ws os) rs x ≡ explain_words ws os rs message r
     unfolding explain_words
     explain_few h p q = rw (v, h, p, q, put_none rs)
@@ -90,7 +87,7 @@ module _ (ws os rs message : List ℕ) (r : Request) where
     -- enough of them, and the step was done
     module _ (h : few ≡ false) where
       refusal_same : refusal_of_explain (cache_in ws) call (length rs) ≡ refusal_of (cache_in ws) call
-      refusal_same = if_false few (some refusal.OrderWords) _ h
+      refusal_same = if_false few (Some refusal.OrderWords) _ h
 
       -- a request that gives no orders has no reasons, and one that can has words enough for them
       pub reasons_enough : {l : List Reason} → l ≡ granted (refusal_of (cache_in ws) call) (reasons_of (cache_in ws) r) → length l ≤ length rs
@@ -102,7 +99,7 @@ module _ (ws os rs message : List ℕ) (r : Request) where
           (λ o. let k = ltb-false (length rs) (2 * length (cache_in ws).rows + 1) (sym (ap (λ (b : Bool). b && ltb (length rs) (2 * length (cache_in ws).rows + 1)) o) ∙ h) in omega arith)
           (λ o. let k = ap (λ (m : List Reason). length m) (p ∙ none_granted (refusal_of (cache_in ws) call) (unordered (cache_in ws) r o)) in omega arith)
 
-      pub explain_done : {a : Answer} {out words reasons : List ℕ} {l : List Reason} {x : Change} → left a out words ≡ step_words ws os message r
+      pub explain_done : {a : Answer} {out words reasons : List ℕ} {l : List Reason} {x : Option Change} → left a out words ≡ step_words ws os message r
           → reasons ≡ reason_words l rs → l ≡ granted (refusal_of (cache_in ws) call) (reasons_of (cache_in ws) r)
           → x ≡ change_of (granted (refusal_of (cache_in ws) call) (changes_of (cache_in ws) r))
           → made (left a out words) reasons x ≡ explain_words ws os rs message r

@@ -2,12 +2,11 @@
 use Prim.Native.Nat.{ℕ}
 use mathlib.Core.Bool.{Bool, true, false, true≢false}
 use mathlib.Core.List.{List}
-use mathlib.Core.Option.{Option, none, some}
+use Rattle.std.specs.Prelude.{Option, None, Some, Ok, Err}
 use mathlib.Core.Path.{◌≡◌, refl, sym, ap, ◌∙◌}
 use lib.ListN.{length}
 use Rattle.rules.proofs.Tests.{split}
-use Rattle.rules.specs.declared.answer.Answer.{Answer}
-use Rattle.rules.specs.declared.answer.Answer.TheVariants.{Accepted, Refused}
+use Rattle.rules.specs.Types.{Answer}
 use Rattle.rules.specs.declared.answer.Refusal.{Refusal}
 use Rattle.rules.specs.declared.answer.Refusal.TheVariants as refusal
 use Rattle.rules.specs.declared.request.Request.{Request}
@@ -15,7 +14,6 @@ use Rattle.rules.specs.Hosts.{asking}
 use Rattle.rules.specs.Refusals.{Call}
 use Rattle.rules.specs.Requests.{Outcome, judged, effect}
 use Rattle.reason_rules.proofs.Courses.{as_ever, course, explained_accepted}
-use Rattle.reason_rules.specs.declared.Change.TheVariants as change
 use Rattle.reason_rules.specs.Reasons.{refusal_of_explain, granted, reasons_of, changes_of, explain}
 use Rattle.reasons.specs.Changes.{change_of}
 use Rattle.layout.specs.Picture.{cache_in}
@@ -29,8 +27,8 @@ use Rattle.explain.specs.Explanation.{Explanation, reason_words, explain_words}
 use Rattle.explain.specs.Promises.{AsEver, NamesNothing, NamesCourse}
 
 abbrev is_accepted : Answer → Bool
-is_accepted (Accepted n) = true
-is_accepted (Refused x) = false
+is_accepted (Ok n) = true
+is_accepted (Err x) = false
 
 module _ (ws os rs message : List ℕ) (r : Request) where
   abbrev call : Call
@@ -39,7 +37,7 @@ module _ (ws os rs message : List ℕ) (r : Request) where
   abbrev words : Explanation
   words = explain_words ws os rs message r
 
-  damaged : judge_words ws ≡ false → words ≡ made (left (Refused refusal.Table) ws os) rs change.Same
+  damaged : judge_words ws ≡ false → words ≡ made (left (Err refusal.Table) ws os) rs None
   unfolding explain_words
   damaged v = rw v
 
@@ -62,29 +60,29 @@ module _ (ws os rs message : List ℕ) (r : Request) where
           → words ≡ (let x = explain (cache_in ws) call (length rs) in made (carried_out x.outcome.answer x.outcome ws os) (reason_words x.reasons rs) (change_of x.changes))
       by_rules v = rw v
 
-  refused_words : {x y : Refusal} → words ≡ made (left (Refused y) ws os) rs change.Same → words.left.answer ≡ Refused x
-      → words ≡ made (left (Refused x) ws os) rs change.Same
-  refused_words p e = p ∙ ap (λ (a : Answer). made (left a ws os) rs change.Same) (sym (ap (λ (x : Explanation). x.left.answer) p) ∙ e)
+  refused_words : {x y : Refusal} → words ≡ made (left (Err y) ws os) rs None → words.left.answer ≡ Err x
+      → words ≡ made (left (Err x) ws os) rs None
+  refused_words p e = p ∙ ap (λ (a : Answer). made (left a ws os) rs None) (sym (ap (λ (x : Explanation). x.left.answer) p) ∙ e)
 
   pub names_nothing : NamesNothing ws os rs message r
   names_nothing x e =
       split (judge_words ws) (λ v. go v (refusal_of_explain (cache_in ws) call (length rs)) refl) (λ v. refused_words (damaged v) e)
     where
-      go : judge_words ws ≡ true → (o : Option Refusal) → refusal_of_explain (cache_in ws) call (length rs) ≡ o → words ≡ made (left (Refused x) ws os) rs change.Same
-      go v none f = absurd (true≢false (sym (ap (λ (y : Explanation). is_accepted y.left.answer) (by_refusal v none f)) ∙ ap is_accepted e))
-      go v (some y) f = refused_words (by_refusal v (some y) f ∙ ap (λ (l : List ℕ). made (left (Refused y) ws os) l change.Same) (put_none rs)) e
+      go : judge_words ws ≡ true → (o : Option Refusal) → refusal_of_explain (cache_in ws) call (length rs) ≡ o → words ≡ made (left (Err x) ws os) rs None
+      go v None f = absurd (true≢false (sym (ap (λ (y : Explanation). is_accepted y.left.answer) (by_refusal v None f)) ∙ ap is_accepted e))
+      go v (Some y) f = refused_words (by_refusal v (Some y) f ∙ ap (λ (l : List ℕ). made (left (Err y) ws os) l None) (put_none rs)) e
 
-  pub names_course : (n : ℕ) → words.left.answer ≡ Accepted n → NamesCourse ws os rs message r
+  pub names_course : (n : ℕ) → words.left.answer ≡ Ok n → NamesCourse ws os rs message r
   names_course n e =
       split (judge_words ws) (λ v. go v (refusal_of_explain (cache_in ws) call (length rs)) refl)
       (λ v. absurd (true≢false (sym (ap is_accepted e) ∙ ap (λ (y : Explanation). is_accepted y.left.answer) (damaged v))))
     where
       go : judge_words ws ≡ true → (o : Option Refusal) → refusal_of_explain (cache_in ws) call (length rs) ≡ o → NamesCourse ws os rs message r
-      go v none f = record {
+      go v None f = record {
         reasons_named = reasons_of (cache_in ws) r;
         changes_named = changes_of (cache_in ws) r;
         course = course (cache_in ws) call (sound ws v).0 (explained_accepted (cache_in ws) call (length rs) f);
-        words = ap (λ (x : Explanation). x.reasons) (by_refusal v none f);
-        change = ap (λ (x : Explanation). x.change) (by_refusal v none f);
+        words = ap (λ (x : Explanation). x.reasons) (by_refusal v None f);
+        change = ap (λ (x : Explanation). x.change) (by_refusal v None f);
       }
-      go v (some y) f = absurd (true≢false (sym (ap is_accepted e) ∙ ap (λ (x : Explanation). is_accepted x.left.answer) (by_refusal v (some y) f)))
+      go v (Some y) f = absurd (true≢false (sym (ap is_accepted e) ∙ ap (λ (x : Explanation). is_accepted x.left.answer) (by_refusal v (Some y) f)))

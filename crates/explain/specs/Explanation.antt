@@ -1,11 +1,9 @@
 -- An explained request on the words of a table: what it answers, names and leaves, on any input.
-use Rattle.std.specs.Prelude.{ℕ, List, ◌++◌, map, length, drop, if◌then◌else◌}
-use Rattle.rules.specs.declared.answer.Answer.TheVariants.{Refused}
+use Rattle.std.specs.Prelude.{ℕ, List, ◌++◌, map, length, drop, if◌then◌else◌, Err, Option, None}
 use Rattle.rules.specs.declared.answer.Refusal.TheVariants as refusal
 use Rattle.rules.specs.declared.request.Request.{Request}
 use Rattle.rules.specs.Hosts.{asking}
 use Rattle.reason_rules.specs.declared.Change.{Change}
-use Rattle.reason_rules.specs.declared.Change.TheVariants as change
 use Rattle.reason_rules.specs.declared.Reason.{Reason}
 use Rattle.reason_rules.specs.Reasons.{reason_number, explain}
 use Rattle.reasons.specs.Changes.{change_of}
@@ -18,7 +16,7 @@ use Rattle.explain.specs.declared.explaining.Explained.{Explained}
 pub record Explanation : Type 0 where
   pub left : Left
   pub reasons : List ℕ
-  pub change : Change
+  pub change : Option Change
 
 abbrev pub explained : Explained → List ℕ → List ℕ → List ℕ → Explanation
 explained r table orders reasons = record { left = left r.answer table orders; reasons = reasons; change = r.change }
@@ -37,4 +35,4 @@ explain_words table orders reasons message r =
       reasons = reason_words x.reasons reasons;
       change = change_of x.changes;
     })
-    else record { left = left (Refused refusal.Table) table orders; reasons = reasons; change = change.Same }
+    else record { left = left (Err refusal.Table) table orders; reasons = reasons; change = None }

@@ -1,12 +1,10 @@
 -- What an explained request promises on any words.
-use Rattle.std.specs.Prelude.{ℕ, ◌≡◌, true, false, List, length}
-use Rattle.rules.specs.declared.answer.Answer.TheVariants.{Accepted, Refused}
+use Rattle.std.specs.Prelude.{ℕ, ◌≡◌, true, false, List, length, Err, None}
 use Rattle.rules.specs.declared.answer.Refusal.{Refusal}
 use Rattle.rules.specs.declared.request.Request.{Request}
 use Rattle.rules.specs.Hosts.{asking}
 use Rattle.rules.specs.Requests.{step}
 use Rattle.reason_rules.specs.declared.Change.{Change}
-use Rattle.reason_rules.specs.declared.Change.TheVariants as change
 use Rattle.reason_rules.specs.declared.Reason.{Reason}
 use Rattle.reason_rules.specs.Courses.{Course}
 use Rattle.reason_rules.specs.Reasons.{too_few_reasons}
@@ -23,8 +21,8 @@ module _ (table orders reasons message : List ℕ) (r : Request) where
 
   -- A refusal names no reason and no change, and changes no lent word.
   abbrev pub NamesNothing : Type 0
-  NamesNothing = (x : Refusal) → (explain_words table orders reasons message r).left.answer ≡ Refused x
-      → explain_words table orders reasons message r ≡ (record { left = left (Refused x) table orders; reasons = reasons; change = change.Same })
+  NamesNothing = (x : Refusal) → (explain_words table orders reasons message r).left.answer ≡ Err x
+      → explain_words table orders reasons message r ≡ (record { left = left (Err x) table orders; reasons = reasons; change = None })
 
   -- The rule named is the rule: what an accepted request names is its course, which has one answer only.
   pub record NamesCourse : Type 0 where

@@ -1,58 +1,39 @@
 // One request on the cache in a lent table, done as ever and explained.
 ghost use Rattle.std.specs.Prelude.{◌≡◌, ◌&&◌, ◌+◌, ◌*◌, ◌≤◌, ltb};
-ghost use Rattle.rules.specs.declared.answer.Answer.TheVariants as answer;
 ghost use Rattle.rules.specs.Given.{can_order};
 ghost use Rattle.rules.specs.Limits.{most_rows};
-ghost use Rattle.reason_rules.specs.declared.Change.TheVariants as change;
 ghost use Rattle.explain.specs.Explanation.{explained, explain_words};
 
 use crate::naming::put_runs;
 use cache::work_judged;
 use judge::judge;
 use reason_rules::Change;
-use room::Held;
-use rules::answer::{Answer, Refusal};
+use rules::answer::Refusal;
 use rules::request::Request;
 use table::header::row_count;
 
+// Two fields and no Result of both: C's struct has the answer beside the change, and `explained` (specs/Explanation.antt) takes them so.
 #[derive(Clone, Copy)]
 pub struct Explained {
-    pub answer: Answer,
+    pub answer: Result<u64, Refusal>,
     // Of the maximum.
-    pub change: Change,
+    pub change: Option<Change>,
 }
 
 // Orders can come from insert, protect, release, flush, sync and configure.
 fn can_order(request: Request) -> bool
     ensures { result ≡ can_order request }
 {
-    match request {
-        Request::Insert {
-            address: _,
-            size: _,
-        } => true,
-        Request::Protect {
-            access: _,
-            address: _,
-            size: _,
-        } => true,
-        Request::Release { address: _ } => true,
-        Request::ReleaseChanged {
-            address: _,
-            size: _,
-        } => true,
-        Request::Pin { address: _ } => false,
-        Request::Unpin { address: _ } => false,
-        Request::Resize {
-            address: _,
-            size: _,
-        } => false,
-        Request::Discard { address: _ } => false,
-        Request::Flush => true,
-        Request::Sync => true,
-        Request::Take => false,
-        Request::Configure(_) => true,
-    }
+    matches!(
+        request,
+        Request::Insert { .. }
+            | Request::Protect { .. }
+            | Request::Release { .. }
+            | Request::ReleaseChanged { .. }
+            | Request::Flush
+            | Request::Sync
+            | Request::Configure(_)
+    )
 }
 
 // The request can give orders, and fewer reason words are lent than they may be.
@@ -64,11 +45,11 @@ fn few_reasons(rows: usize, lent: usize, request: Request) -> bool
 }
 
 fn refused(refusal: Refusal) -> Explained
-    ensures { (result.answer ≡ answer.Refused refusal) × (result.change ≡ change.Same) }
+    ensures { (result.answer ≡ Err refusal) × (result.change ≡ None) }
 {
     Explained {
-        answer: Answer::Refused(refusal),
-        change: Change::Same,
+        answer: Err(refusal),
+        change: None,
     }
 }
 
@@ -88,11 +69,10 @@ pub fn explain(
     if few_reasons(row_count(table), reasons.len(), request) {
         return refused(Refusal::OrderWords);
     }
-    let worked = work_judged(table, orders, message, request, Held::Unknown);
-    let done = worked.done;
-    let runs = done.runs;
-    put_runs(reasons, runs);
-    let answer = worked.answer;
-    let change = done.change;
-    Explained { answer, change }
+    let worked = work_judged(table, orders, message, request, None);
+    put_runs(reasons, worked.done.runs);
+    Explained {
+        answer: worked.answer,
+        change: worked.done.change,
+    }
 }

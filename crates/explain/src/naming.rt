@@ -9,6 +9,7 @@ use layout::fresh::fill_part;
 use reason_rules::Reason;
 use reasons::runs::{RoomRuns, Runs};
 
+// The numbers of reasons in the words of the C function speldervacht_explain.
 fn reason_number(reason: Reason) -> u64
     ensures { result ≡ reason_number reason }
 {
@@ -28,8 +29,7 @@ fn put_room(reasons: &mut [u64], from: usize, runs: RoomRuns)
     requires { from + runs.first + runs.share ≤ length reasons.old }
     ensures { reasons.new ≡ room_put from runs reasons.old }
 {
-    let reason = runs.reason;
-    fill_part(reasons, from, runs.first, reason_number(reason));
+    fill_part(reasons, from, runs.first, reason_number(runs.reason));
     let then = from + runs.first;
     fill_part(reasons, then, runs.share, reason_number(Reason::Share));
 }
@@ -39,13 +39,11 @@ pub fn put_runs(reasons: &mut [u64], runs: Runs)
     requires { orders_in runs ≤ length reasons.old }
     ensures { reasons.new ≡ reason_words (all_runs runs) reasons.old }
 {
-    let room = runs.room;
-    let again = runs.again;
-    put_room(reasons, 0, room);
-    let loads = room.first + room.share;
+    put_room(reasons, 0, runs.room);
+    let loads = runs.room.first + runs.room.share;
     fill_part(reasons, loads, runs.load, reason_number(Reason::Load));
     let ages = loads + runs.load;
     fill_part(reasons, ages, runs.aged, reason_number(Reason::Aged));
     let then = ages + runs.aged;
-    put_room(reasons, then, again);
+    put_room(reasons, then, runs.again);
 }

@@ -1,5 +1,5 @@
 -- A flash: where the size is not large the maximum stays, and else it rises to a number within the settings.
-use Rattle.std.specs.Prelude.{if◌then◌else◌}
+use Rattle.std.specs.Prelude.{if◌then◌else◌, None, Option, Some}
 use Prim.Native.Nat.{ℕ, ◌≤◌, ◌<◌}
 use mathlib.Core.Bool.{false}
 use mathlib.Core.List.{List}
@@ -8,7 +8,6 @@ use native.Mathlib.Omega.{arith}
 use lib.Dec.{ltb}
 use borrow.Author.Tests.{ltb-true, ltb-false, le-ltb}
 use Rattle.fraction.specs.Fraction.{exceeds_share}
-use Rattle.settings.specs.declared.Cap.TheVariants as cap
 use Rattle.settings.specs.declared.Flash.{Flash}
 use Rattle.settings.specs.declared.Flash.TheVariants as flash
 use Rattle.settings.specs.declared.Settings.{Settings}
@@ -17,7 +16,6 @@ use Rattle.rules.specs.Cache.{Cache, with_maximum, restart, held}
 use Rattle.rules.specs.Resizing.{flash_maximum, flashed_to, flashed}
 use Rattle.reason_rules.specs.declared.Bound.{Bound}
 use Rattle.reason_rules.specs.declared.Cause.TheVariants as cause
-use Rattle.reason_rules.specs.declared.Change.TheVariants as change
 use Rattle.reason_rules.specs.Bounds.{rise_bound}
 use Rattle.reason_rules.specs.Reasons.{flash_raw, flash_change}
 use Rattle.reasons.specs.Changes.{change_of, flash_value}
@@ -64,7 +62,7 @@ module _ (c : Cache) (x : ℕ) (s : Settings) (before : ℕ) (p : s ≡ c.settin
       (let k = same c.settings.flash x c.maximum (held c) c.settings.largest (sym (ap₂ (λ (s : Settings) (m : ℕ). is_flash s.flash x m) p q) ∙ e) in omega arith)
       h
 
-  pub flash_same : is_flash s.flash x before ≡ false → change.Same ≡ change_of (flash_change x c)
+  pub flash_same : is_flash s.flash x before ≡ false → None ≡ change_of (flash_change x c)
   flash_same e =
       let k = same c.settings.flash x c.maximum (held c) c.settings.largest (sym (ap₂ (λ (s : Settings) (m : ℕ). is_flash s.flash x m) p q) ∙ e) in
       rw (le-ltb c.maximum (flashed_to x c) (omega arith))
@@ -74,12 +72,12 @@ module _ (c : Cache) (x : ℕ) (s : Settings) (before : ℕ) (p : s ≡ c.settin
     flash_to = e ∙ rw (p, q, r)
 
     -- the bound that the numbers give is that of the change
-    pub flash_named : (b : Bound) → b ≡ rise_bound cap.None (flash_value s.flash x before h) before s.largest
-        → (if ltb before n then change.To cause.Flash b else change.Same) ≡ change_of (flash_change x c)
+    pub flash_named : (b : Option Bound) → b ≡ rise_bound None (flash_value s.flash x before h) before s.largest
+        → (if ltb before n then Some (record { cause = cause.Flash; bound = b }) else None) ≡ change_of (flash_change x c)
     flash_named b i =
-        let j : b ≡ rise_bound cap.None (flash_raw c.settings.flash x c) c.maximum c.settings.largest = i ∙ rw (p, q, r, raw_is c.settings.flash x c) in
-        ap₂ (λ (m k : ℕ). if ltb m k then change.To cause.Flash b else change.Same) q flash_to
-        ∙ ap (λ (d : Bound). if ltb c.maximum (flashed_to x c) then change.To cause.Flash d else change.Same) j
+        let j : b ≡ rise_bound None (flash_raw c.settings.flash x c) c.maximum c.settings.largest = i ∙ rw (p, q, r, raw_is c.settings.flash x c) in
+        ap₂ (λ (m k : ℕ). if ltb m k then Some (record { cause = cause.Flash; bound = b }) else None) q flash_to
+        ∙ ap (λ (d : Option Bound). if ltb c.maximum (flashed_to x c) then Some (record { cause = cause.Flash; bound = d }) else None) j
         ∙ change_if cause.Flash _ (ltb c.maximum (flashed_to x c))
 
     pub flash_most : c.maximum ≤ c.settings.largest → n ≤ c.settings.largest

@@ -4,7 +4,6 @@
 ghost use Rattle.std.specs.Prelude.{◌≡◌, Bool, ◌≤◌, ltb, if◌then◌else◌};
 ghost use Rattle.rules.specs.Resizing.{flashed};
 ghost use Rattle.reason_rules.specs.declared.Cause.TheVariants as cause;
-ghost use Rattle.reason_rules.specs.declared.Change.TheVariants as change;
 ghost use Rattle.reason_rules.specs.Reasons.{flash_change};
 ghost use Rattle.reasons.specs.Changes.{change_of};
 ghost use Rattle.layout.specs.Picture.{cache_in, rest_in};
@@ -24,44 +23,41 @@ fn is_flash(rule: Flash, x: u64, maximum: u64) -> bool
 {
     match rule {
         Flash::Off => false,
-        Flash::On {
-            multiple: _,
-            threshold,
-        } => fraction::exceeds_share(x, threshold, maximum),
+        Flash::On { threshold, .. } => fraction::exceeds_share(x, threshold, maximum),
     }
 }
 
 // The maximum raised to n, and the counters restarted, if n is above it.
-fn raise(table: &mut [u64], before: u64, n: u64, bound: Bound) -> Change
+fn raise(table: &mut [u64], before: u64, n: u64, bound: Option<Bound>) -> Option<Change>
     requires { Good table.old × (before ≡ (cache_in table.old).maximum) × (n ≤ (cache_in table.old).settings.largest) }
     ensures holds { Holds table.new (raised n (cache_in table.old)) (rest_in table.old) }
-    ensures change { result ≡ (if ltb before n then change.To cause.Flash bound else change.Same) }
+    ensures change { result ≡ (if ltb before n then Some (record { cause = cause.Flash; bound = bound }) else None) }
 {
     if before < n {
         set_maximum(table, n);
         restart(table);
-        return Change::To {
+        Some(Change {
             cause: Cause::Flash,
             bound,
-        };
+        })
+    } else {
+        None
     }
-    Change::Same
 }
 
 // The flash of x bytes; the answer is the change of the maximum.
-pub fn flash(table: &mut [u64], rows: usize, x: u64) -> Change
+pub fn flash(table: &mut [u64], rows: usize, x: u64) -> Option<Change>
     requires { GoodRows table.old rows }
     ensures holds { Holds table.new (flashed x (cache_in table.old)) (rest_in table.old) }
     ensures change { result ≡ change_of (flash_change x (cache_in table.old)) }
 {
     let s = settings(table);
-    let rule = s.flash;
     let before = maximum(table);
-    if !is_flash(rule, x, before) {
-        return Change::Same;
+    if !is_flash(s.flash, x, before) {
+        return None;
     }
     let held = held_bytes(table, rows);
-    let n = new_maximum::flash_maximum(rule, x, before, held, s.largest);
-    let bound = flash_bound(rule, x, before, held, s.largest);
+    let n = new_maximum::flash_maximum(s.flash, x, before, held, s.largest);
+    let bound = flash_bound(s.flash, x, before, held, s.largest);
     raise(table, before, n, bound)
 }

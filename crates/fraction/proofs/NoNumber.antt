@@ -1,20 +1,9 @@
 -- When a float, or the float of a word, is no number. Assumes nothing.
-use Rattle.std.proofs.Common.{◌≡◌, ℕ, ◌*◌, ◌%◌, ◌^◌, ◌<◌, ◌≤◌, true, false, not, T, sym, refl, ◌∙◌, subst, le-ltb, lt-ltb}
-use lib.Ieee.{Float, nan, inf, fin, binary64, ne, eq, is_nan, nan_bits, of_bits}
-use lib.Ieee.Compare.{differs_from_itself}
+use Rattle.std.proofs.Common.{◌≡◌, ℕ, ◌*◌, ◌%◌, ◌^◌, ◌<◌, ◌≤◌, true, false, T, sym, refl, ◌∙◌, subst, le-ltb, lt-ltb}
+use lib.Ieee.{Float, nan, inf, fin, binary64, is_nan, nan_bits, of_bits}
 use lib.Ieee.Bits.{nan_bits_above, nan_bits_is}
 
--- by the test `x != x`
-pub differs : (x : Float) → ne x x ≡ true → x ≡ nan
-differs x h = differs_from_itself x (subst T (sym h) tt)
-
-pub equals : (x : Float) → ne x x ≡ false → T (not (is_nan x))
-unfolding ne eq is_nan
-equals nan h = absurd (subst T h tt)
-equals (inf s) h = tt
-equals (fin s m e) h = tt
-
-nan_is : (x : Float) → is_nan x ≡ true → x ≡ nan
+pub nan_is : (x : Float) → is_nan x ≡ true → x ≡ nan
 unfolding is_nan
 nan_is nan h = refl
 nan_is (inf s) h = absurd (subst T (sym h) tt)

@@ -15,7 +15,8 @@ const TOO_LARGE: u64 = 1087;
 
 const NOT_FINITE: u64 = 2047;
 
-// The whole part of x by one shift: 0 where x is below 1 or no number, the largest u64 from 2^64 on.
+// The whole part of x by one shift: 0 where x is below 1 or no number, the largest u64 from 2^64 on. std's saturating_f64_to_u64 gives
+// the same; the shift stays, since docs/WHOLE_PART.md explains it and the edits whole_shift, shift_one_short and leading_digit change it.
 pub fn whole_part(x: f64) -> u64
     ensures value { result ≡ whole_of_word (to_bits binary64 x) }
     ensures whole { result ≡ whole_part x }
@@ -39,5 +40,5 @@ pub fn whole_part(x: f64) -> u64
     if (exponent == NOT_FINITE) & (fraction != 0) {
         return 0;
     }
-    0xffff_ffff_ffff_ffff
+    u64::MAX
 }

@@ -17,10 +17,10 @@ pub fn word_of(x: f64) -> u64
     ensures value { result ≡ to_bits binary64 x }
     ensures fits { T (fits binary64 x) }
 {
-    if x != x {
+    if x.is_nan() {
         return NO_NUMBER;
     }
-    f64::to_bits(x)
+    x.to_bits()
 }
 
 // The float of a word.
@@ -30,5 +30,5 @@ pub fn float_of(w: u64) -> f64
     if w % SIGN <= INFINITY {
         return f64::from_bits(w);
     }
-    0.0 / 0.0
+    f64::NAN
 }

@@ -2,7 +2,7 @@
 use Prim.Native.Nat.{ℕ, ◌+◌, min}
 use mathlib.Core.Bool.{true, false}
 use mathlib.Core.List.{List}
-use mathlib.Core.Option.{none}
+use Rattle.std.specs.Prelude.{None}
 use mathlib.Core.Path.{◌≡◌, sym, ap, subst, ◌∙◌}
 use Rattle.rules.proofs.Effects.{new_allowed}
 use Rattle.rules.specs.Cache.{Cache, with_count}
@@ -23,7 +23,7 @@ module _ (a s : ℕ) where
   -- an address and a size that are not refused
   module _ (ok : bad_address a ≡ false) (sized : bad_size s ≡ false) where
     -- what adding the entry asks
-    pub new_asks : {ws : List ℕ} {rows : ℕ} {e : Entry} → GoodRows ws rows → has_free (cache_in ws).rows ≡ true → get (cache_in ws).rows a ≡ none → e ≡ new_entry a s true Unheld
+    pub new_asks : {ws : List ℕ} {rows : ℕ} {e : Entry} → GoodRows ws rows → has_free (cache_in ws).rows ≡ true → get (cache_in ws).rows a ≡ None → e ≡ new_entry a s true Unheld
         → GoodRows ws rows × Addable (cache_in ws) e
     new_asks {ws} g f n p = (g, subst (Addable (cache_in ws)) (sym p) (record { free = f; absent = n; allowed = new_allowed a s ok sized true Unheld tt }))
 

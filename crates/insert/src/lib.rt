@@ -2,7 +2,6 @@
 #![tactic(auto)]
 
 ghost use Rattle.std.specs.Prelude.{◌≡◌, true, false, [], length};
-ghost use Rattle.std.proofs.Math.Option.{none};
 ghost use Rattle.rules.specs.declared.request.Request.TheVariants.{Insert};
 ghost use Rattle.rules.specs.Hosts.{asking};
 ghost use Rattle.rules.specs.Refusals.{bad_address, bad_size};
@@ -25,7 +24,7 @@ use table::header::{count, row_count, set_count};
 
 // A new entry, dirty, at the head; the byte count adds its size.
 fn add_dirty(table: &mut [u64], rows: usize, address: u64, size: u64)
-    requires { GoodRows table.old rows × (has_free (cache_in table.old).rows ≡ true) × (get (cache_in table.old).rows address ≡ none) × (bad_address address ≡ false) × (bad_size size ≡ false) }
+    requires { GoodRows table.old rows × (has_free (cache_in table.old).rows ≡ true) × (get (cache_in table.old).rows address ≡ None) × (bad_address address ≡ false) × (bad_size size ≡ false) }
     ensures { Holds table.new (inserted_in address size (cache_in table.old)) (rest_in table.old) }
 {
     add_entry(table, rows, new_entry(address, size, true, Hold::Unheld));
@@ -40,11 +39,9 @@ pub fn insert(table: &mut [u64], orders: &mut [u64], address: u64, size: u64) ->
     let rows = row_count(table);
     let admitted = admit(table, orders, rows, size);
     add_dirty(table, rows, address, size);
-    let change = admitted.change;
-    let runs = room_alone(admitted.runs);
     Done {
         given: admitted.given,
-        runs,
-        change,
+        runs: room_alone(admitted.runs),
+        change: admitted.change,
     }
 }

@@ -1,4 +1,5 @@
 -- The tests of a cache come out true exactly where it is allowed.
+use Rattle.std.specs.Prelude.{None, Some}
 use Prim.Native.Nat.{ℕ, zero, suc}
 use mathlib.Core.Path.{◌≡◌, refl, sym, ap, ◌∙◌}
 use mathlib.Core.Bool.{Bool, true, false, not, ◌||◌}
@@ -9,8 +10,7 @@ use lib.ListN.{get_or}
 use Rattle.rules.specs.declared.entry.Entry.{Entry}
 use Rattle.rules.specs.declared.entry.Hold.{Hold}
 use Rattle.rules.specs.declared.entry.Hold.TheVariants.{Unheld, Readers, Writer}
-use Rattle.rules.specs.declared.entry.Row.{Row}
-use Rattle.rules.specs.declared.entry.Row.TheVariants.{Free, Used}
+use Rattle.rules.specs.Types.{Row}
 use Rattle.rules.specs.Addresses.{elem, twice}
 use Rattle.rules.specs.Allowed.{HoldAllowed, EntryAllowed, Distinct, Allowed}
 use Rattle.rules.specs.Cache.{Cache}
@@ -80,19 +80,19 @@ entry_in e a =
 
 -- ---- every entry, by row
 
-every_out : (test : Entry → Bool) (rows : List Row) → every_entry test rows ≡ true → (r : ℕ) (e : Entry) → get_or rows r Free ≡ Used e → test e ≡ true
+every_out : (test : Entry → Bool) (rows : List Row) → every_entry test rows ≡ true → (r : ℕ) (e : Entry) → get_or rows r None ≡ Some e → test e ≡ true
 unfolding every_entry
 every_out test [] h r e q = not_used q
-every_out test (Free ∷ rows) h zero e q = not_used q
-every_out test (Free ∷ rows) h (suc r) e q = every_out test rows h r e q
-every_out test (Used x ∷ rows) h zero e q = let p : x ≡ e = cc in rw p at (left _ _ h)
-every_out test (Used x ∷ rows) h (suc r) e q = every_out test rows (right _ _ h) r e q
+every_out test (None ∷ rows) h zero e q = not_used q
+every_out test (None ∷ rows) h (suc r) e q = every_out test rows h r e q
+every_out test (Some x ∷ rows) h zero e q = let p : x ≡ e = cc in rw p at (left _ _ h)
+every_out test (Some x ∷ rows) h (suc r) e q = every_out test rows (right _ _ h) r e q
 
-every_in : (test : Entry → Bool) (rows : List Row) → ((r : ℕ) (e : Entry) → get_or rows r Free ≡ Used e → test e ≡ true) → every_entry test rows ≡ true
+every_in : (test : Entry → Bool) (rows : List Row) → ((r : ℕ) (e : Entry) → get_or rows r None ≡ Some e → test e ≡ true) → every_entry test rows ≡ true
 unfolding every_entry
 every_in test [] f = refl
-every_in test (Free ∷ rows) f = every_in test rows (λ r e q. f (suc r) e q)
-every_in test (Used x ∷ rows) f = also (f 0 x refl) (every_in test rows (λ r e q. f (suc r) e q))
+every_in test (None ∷ rows) f = every_in test rows (λ r e q. f (suc r) e q)
+every_in test (Some x ∷ rows) f = also (f 0 x refl) (every_in test rows (λ r e q. f (suc r) e q))
 
 -- ---- every address
 
@@ -111,14 +111,14 @@ each_in test (b ∷ l) f = also (f b (elem_first b l)) (each_in test l (λ a e. 
 distinct_out : (rows : List Row) → distinct rows ≡ true → Distinct rows
 unfolding distinct
 distinct_out [] h = tt
-distinct_out (Free ∷ rows) h = distinct_out rows h
-distinct_out (Used e ∷ rows) h = (absent (get rows e.address) (not-true _ (left _ _ h)), distinct_out rows (right _ _ h))
+distinct_out (None ∷ rows) h = distinct_out rows h
+distinct_out (Some e ∷ rows) h = (absent (get rows e.address) (not-true _ (left _ _ h)), distinct_out rows (right _ _ h))
 
 distinct_in : (rows : List Row) → Distinct rows → distinct rows ≡ true
 unfolding distinct
 distinct_in [] d = refl
-distinct_in (Free ∷ rows) d = distinct_in rows d
-distinct_in (Used e ∷ rows) d = also (rw d.0) (distinct_in rows d.1)
+distinct_in (None ∷ rows) d = distinct_in rows d
+distinct_in (Some e ∷ rows) d = also (rw d.0) (distinct_in rows d.1)
 
 module _ (rows : List Row) (recency : List ℕ) where
   -- every listed entry stands in the list

@@ -7,6 +7,7 @@ use native.Mathlib.Nat.{add-zero}
 use native.Mathlib.Omega.{arith}
 use borrow.Author.Count.{below_more}
 use borrow.Author.Tests.{eq-eqb, ne_eqb}
+use Rattle.std.specs.Int.{from_bool}
 use Rattle.settings_words.specs.Words.{flag_word}
 use Rattle.judge.specs.declared.row.RowWords.{RowWords}
 use Rattle.judge.specs.Fits.{SizeFits, FreeFits, EntryFits, RowFits, free, entry, CountedRows, words_at, used_at, mark_at, tally}
@@ -22,6 +23,15 @@ module _ {w : RowWords} {m : Bool} where
   free_of (free f) n = f
   free_of (entry f) n = absurd (n f.size)
 
+-- a mark as a number
+mark_word : (b : Bool) → from_bool b ≡ flag_word b
+mark_word true = refl
+mark_word false = refl
+
+pub mark_low : (b : Bool) → from_bool b ≤ 1
+mark_low true = omega arith
+mark_low false = omega arith
+
 module _ {ws : List ℕ} {listed : List Bool} where
   pub counted_none : CountedRows ws 0 listed 0 0
   unfolding tally
@@ -34,12 +44,12 @@ module _ {ws : List ℕ} {listed : List Bool} where
     pub few_marked : l ≤ i
     few_marked = omega (arith, c.marked, tally_low (mark_at listed) i)
 
-    module _ {more word : ℕ} (w : word ≡ flag_word (mark_at listed i)) where
+    module _ {more word : ℕ} (w : word ≡ from_bool (mark_at listed i)) where
       counted_on : (b : Bool) → used_at ws i ≡ b → more ≡ k + flag_word b → RowFits (words_at ws i) (mark_at listed i) → CountedRows ws (i + 1) listed more (l + word)
       counted_on b u m f = record {
         rows = below_more _ _ c.rows f;
         used = rw (tally_on (used_at ws) i, c.used, u) (sym m);
-        marked = rw (tally_on (mark_at listed) i, c.marked, w);
+        marked = rw (tally_on (mark_at listed) i, c.marked, w, mark_word (mark_at listed i));
       }
 
       pub counted_entry : EntryFits (words_at ws i) (mark_at listed i) → more ≡ k + 1 → CountedRows ws (i + 1) listed more (l + word)
@@ -47,13 +57,3 @@ module _ {ws : List ℕ} {listed : List Bool} where
 
       pub counted_free : FreeFits (words_at ws i) (mark_at listed i) → more ≡ k → CountedRows ws (i + 1) listed more (l + word)
       counted_free f m = counted_on false (rw (eq-eqb _ _ f.size)) (m ∙ sym (add-zero k)) (free f)
-
-    pub counted_as : {used marked : ℕ} → k ≡ used → l ≡ marked → CountedRows ws i listed used marked
-    counted_as e f = record { rows = c.rows; used = c.used ∙ e; marked = c.marked ∙ f }
-
-    -- the counts are those of any that fit
-    pub same_used : {used marked : ℕ} → CountedRows ws i listed used marked → k ≡ used
-    same_used d = sym c.used ∙ d.used
-
-    pub same_marked : {used marked : ℕ} → CountedRows ws i listed used marked → l ≡ marked
-    same_marked d = sym c.marked ∙ d.marked

@@ -1,6 +1,5 @@
 pub mod Says
 pub mod Marking
-pub mod Ending
 pub mod Ascending
 pub mod RowWords
 pub mod Tally

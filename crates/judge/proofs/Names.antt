@@ -2,14 +2,14 @@
 use Prim.Native.Nat.{ℕ, zero, suc}
 use mathlib.Core.Path.{◌≡◌, refl, sym, ap, ◌∙◌}
 use mathlib.Core.Bool.{Bool, true, false}
-use mathlib.Core.Option.{none, some, some-ne-none}
+use Rattle.std.proofs.lemmas.Option.{none-some}
+use Rattle.std.specs.Prelude.{None, Some}
 use mathlib.Core.List.{List, [], ◌∷◌, map}
 use borrow.Author.Tests.{eq-eqb, eqb-true}
 use lib.Dec.{eqb}
 use lib.ListN.{get_or}
 use Rattle.rules.specs.declared.entry.Entry.{Entry}
-use Rattle.rules.specs.declared.entry.Row.{Row}
-use Rattle.rules.specs.declared.entry.Row.TheVariants.{Free, Used}
+use Rattle.rules.specs.Types.{Row}
 use Rattle.rules.specs.Addresses.{elem, twice}
 use Rattle.rules.specs.Allowed.{Distinct}
 use Rattle.rules.specs.Rows.{get, passes}
@@ -38,17 +38,17 @@ not_true_false false f = refl
 -- a row that passes has an entry
 pub record Has (test : Entry → Bool) (row : Row) : Type 0 where
   pub entry : Entry
-  pub is : row ≡ Used entry
+  pub is : row ≡ Some entry
   pub passes : test entry ≡ true
 
 pub has : (test : Entry → Bool) (row : Row) → test_row test row ≡ true → Has test row
-has test Free h = no _ refl h
-has test (Used e) h = record { entry = e; is = refl; passes = h }
+has test None h = no _ refl h
+has test (Some e) h = record { entry = e; is = refl; passes = h }
 
 -- an address that passes has a row
 pub record Found (test : Entry → Bool) (rows : List Row) (a : ℕ) : Type 0 where
   pub entry : Entry
-  pub is : get_or rows (row_number rows a) Free ≡ Used entry
+  pub is : get_or rows (row_number rows a) None ≡ Some entry
   pub at : entry.address ≡ a
   pub passes : test entry ≡ true
 
@@ -60,17 +60,17 @@ found test rows a h =
 
 -- ---- an entry's address leads to its row
 
-apart : (x e : Entry) (rows : List Row) → get rows x.address ≡ none → get rows e.address ≡ some e → eqb x.address e.address ≡ false
+apart : (x e : Entry) (rows : List Row) → get rows x.address ≡ None → get rows e.address ≡ Some e → eqb x.address e.address ≡ false
 apart x e rows d g =
-    not_true_false _ (λ p. some-ne-none e (sym g ∙ ap (get rows) (sym (eqb-true x.address e.address p)) ∙ d))
+    not_true_false _ (λ p. none-some e (sym (sym g ∙ ap (get rows) (sym (eqb-true x.address e.address p)) ∙ d)))
 
-pub number_back : (rows : List Row) → Distinct rows → (i : ℕ) (e : Entry) → get_or rows i Free ≡ Used e → row_number rows e.address ≡ i
+pub number_back : (rows : List Row) → Distinct rows → (i : ℕ) (e : Entry) → get_or rows i None ≡ Some e → row_number rows e.address ≡ i
 unfolding row_number
 number_back [] d i e h = not_used h
-number_back (Free ∷ rows) d zero e h = not_used h
-number_back (Free ∷ rows) d (suc i) e h = ap suc (number_back rows d i e h)
-number_back (Used x ∷ rows) d zero e h = let q : x ≡ e = cc in rw (q, eq-eqb e.address e.address refl)
-number_back (Used x ∷ rows) d (suc i) e h =
+number_back (None ∷ rows) d zero e h = not_used h
+number_back (None ∷ rows) d (suc i) e h = ap suc (number_back rows d i e h)
+number_back (Some x ∷ rows) d zero e h = let q : x ≡ e = cc in rw (q, eq-eqb e.address e.address refl)
+number_back (Some x ∷ rows) d (suc i) e h =
     rw (apart x e rows d.0 (get_row rows i e d.1 h)) (ap suc (number_back rows d.1 i e h))
 
 -- ---- mapped lists
@@ -118,25 +118,25 @@ module _ (f : ℕ → ℕ) where
 -- ---- a list by number and by address
 
 module _ (rows : List Row) (d : Distinct rows) (test : Entry → Bool) where
-  leads : (i : ℕ) (e : Entry) → get_or rows i Free ≡ Used e → test e ≡ true → passes test (get rows e.address) ≡ true
+  leads : (i : ℕ) (e : Entry) → get_or rows i None ≡ Some e → test e ≡ true → passes test (get rows e.address) ≡ true
   leads i e h t = rw (get_row rows i e d h) t
 
-  pub by_number : (xs : List ℕ) → ((a : ℕ) → elem a xs ≡ passes test (get rows a)) → (r : ℕ) → elem r (map (row_number rows) xs) ≡ test_row test (get_or rows r Free)
+  pub by_number : (xs : List ℕ) → ((a : ℕ) → elem a xs ≡ passes test (get rows a)) → (r : ℕ) → elem r (map (row_number rows) xs) ≡ test_row test (get_or rows r None)
   by_number xs f r =
       both _ _
       (λ h. let m = elem_from (row_number rows) xs r h in
       let q = found test rows m.of (sym (f m.of) ∙ m.inside) in
-      ap (λ (i : ℕ). test_row test (get_or rows i Free)) (sym m.is) ∙ ap (test_row test) q.is ∙ q.passes)
-      (λ h. let q = has test (get_or rows r Free) h in
+      ap (λ (i : ℕ). test_row test (get_or rows i None)) (sym m.is) ∙ ap (test_row test) q.is ∙ q.passes)
+      (λ h. let q = has test (get_or rows r None) h in
       ap (λ (i : ℕ). elem i (map (row_number rows) xs)) (sym (number_back rows d r q.entry q.is))
       ∙ elem_to (row_number rows) xs q.entry.address (f q.entry.address ∙ leads r q.entry q.is q.passes))
 
-  module _ (ys : List ℕ) (f : (r : ℕ) → elem r ys ≡ test_row test (get_or rows r Free)) where
+  module _ (ys : List ℕ) (f : (r : ℕ) → elem r ys ≡ test_row test (get_or rows r None)) where
     pub by_address : (a : ℕ) → elem a (map (address_at rows) ys) ≡ passes test (get rows a)
     by_address a =
         both _ _
         (λ h. let m = elem_from (address_at rows) ys a h in
-        let q = has test (get_or rows m.of Free) (sym (f m.of) ∙ m.inside) in
+        let q = has test (get_or rows m.of None) (sym (f m.of) ∙ m.inside) in
         let e : q.entry.address ≡ a = ap address_of (sym q.is) ∙ m.is in
         rw e at (leads m.of q.entry q.is q.passes))
         (λ h. let q = found test rows a h in
@@ -147,5 +147,5 @@ module _ (rows : List Row) (d : Distinct rows) (test : Entry → Bool) where
     -- a number of the list is read back from its address
     pub numbered : (i : ℕ) → elem i ys ≡ true → row_number rows (address_at rows i) ≡ i
     numbered i h =
-        let q = has test (get_or rows i Free) (sym (f i) ∙ h) in
+        let q = has test (get_or rows i None) (sym (f i) ∙ h) in
         ap (λ (row : Row). row_number rows (address_of row)) q.is ∙ number_back rows d i q.entry q.is

@@ -3,7 +3,7 @@ use Prim.Native.Nat.{ℕ, zero, suc, ◌+◌, ◌≤◌, ◌<◌}
 use mathlib.Core.Path.{◌≡◌, refl, sym, ap, ◌∙◌}
 use mathlib.Core.Bool.{Bool, true, false}
 use mathlib.Core.Logic.{dite}
-use mathlib.Core.Option.{Option, none, some}
+use Rattle.std.specs.Prelude.{Option, None, Some}
 use mathlib.Core.List.{List, [], ◌∷◌, map}
 use native.Mathlib.Omega.{arith}
 use native.Mathlib.Decide.{ℕ_discrete, dec_lt}
@@ -11,8 +11,7 @@ use borrow.Author.Tests.{ne_eqb, eqb-true}
 use lib.Dec.{eqb}
 use lib.ListN.{length, get_or, get_or-eq_default}
 use Rattle.rules.specs.declared.entry.Entry.{Entry}
-use Rattle.rules.specs.declared.entry.Row.{Row}
-use Rattle.rules.specs.declared.entry.Row.TheVariants.{Free, Used}
+use Rattle.rules.specs.Types.{Row}
 use Rattle.rules.specs.Addresses.{elem, twice}
 use Rattle.rules.specs.Allowed.{EntryAllowed, Distinct, Sound}
 use Rattle.rules.specs.Cache.{Cache}
@@ -92,24 +91,24 @@ module _ (key : ℕ → ℕ) where
 
 -- ---- distinct addresses, from one row for each
 
-distinct_from : (rows : List Row) → ((i j : ℕ) (e x : Entry) → get_or rows i Free ≡ Used e → get_or rows j Free ≡ Used x → e.address ≡ x.address → i ≡ j) → Distinct rows
+distinct_from : (rows : List Row) → ((i j : ℕ) (e x : Entry) → get_or rows i None ≡ Some e → get_or rows j None ≡ Some x → e.address ≡ x.address → i ≡ j) → Distinct rows
 distinct_from [] f = tt
-distinct_from (Free ∷ rows) f = distinct_from rows (λ i j e x h k q. let p = f (suc i) (suc j) e x h k q in omega arith)
-distinct_from (Used e ∷ rows) f = (gone (get rows e.address) refl, distinct_from rows (λ i j e x h k q. let p = f (suc i) (suc j) e x h k q in omega arith))
+distinct_from (None ∷ rows) f = distinct_from rows (λ i j e x h k q. let p = f (suc i) (suc j) e x h k q in omega arith)
+distinct_from (Some e ∷ rows) f = (gone (get rows e.address) refl, distinct_from rows (λ i j e x h k q. let p = f (suc i) (suc j) e x h k q in omega arith))
   where
-    gone : (o : Option Entry) → get rows e.address ≡ o → get rows e.address ≡ none
-    gone none q = q
-    gone (some x) q =
+    gone : (o : Option Entry) → get rows e.address ≡ o → get rows e.address ≡ None
+    gone None q = q
+    gone (Some x) q =
         let s = stands rows e.address x q in
         absurd (let p = f 0 (suc (row_number rows e.address)) e x refl s.row (sym s.address) in omega arith)
 
 -- ---- rows with the numbers of the listed and of the used
 
 pub record Numbered (rows : List Row) (recency order : List ℕ) : Type 0 where
-  pub allowed : (r : ℕ) → RowAllowed (get_or rows r Free)
-  pub listed : (r : ℕ) → elem r recency ≡ test_row is_listed (get_or rows r Free)
+  pub allowed : (r : ℕ) → RowAllowed (get_or rows r None)
+  pub listed : (r : ℕ) → elem r recency ≡ test_row is_listed (get_or rows r None)
   pub once : twice recency ≡ false
-  pub used : (r : ℕ) → elem r order ≡ test_row (λ e. true) (get_or rows r Free)
+  pub used : (r : ℕ) → elem r order ≡ test_row (λ e. true) (get_or rows r None)
   pub rises : Rising (address_at rows) order
 
 module _ {rows : List Row} {recency order : List ℕ} (n : Numbered rows recency order) where
@@ -142,16 +141,16 @@ module _ {rows : List Row} {recency order : List ℕ} (n : Numbered rows recency
       ap (map (row_number rows)) (sym order_is)
       ∙ map_back (address_at rows) (row_number rows) order (numbered rows distinct_of (λ e. true) order n.used)
 
-  pub entries_of : (a : ℕ) (e : Entry) → get rows a ≡ some e → EntryAllowed e
+  pub entries_of : (a : ℕ) (e : Entry) → get rows a ≡ Some e → EntryAllowed e
   entries_of a e h = rw (stands rows a e h).row at (n.allowed (row_number rows a))
 
 -- ---- the rows of a sound cache
 
-row_allowed : (row : Row) → ((e : Entry) → row ≡ Used e → EntryAllowed e) → RowAllowed row
-row_allowed Free f = tt
-row_allowed (Used e) f = f e refl
+row_allowed : (row : Row) → ((e : Entry) → row ≡ Some e → EntryAllowed e) → RowAllowed row
+row_allowed None f = tt
+row_allowed (Some e) f = f e refl
 
-module _ (c : Cache) (sound : Sound c) (entries : (a : ℕ) (e : Entry) → get c.rows a ≡ some e → EntryAllowed e) where
+module _ (c : Cache) (sound : Sound c) (entries : (a : ℕ) (e : Entry) → get c.rows a ≡ Some e → EntryAllowed e) where
   listed_back : (a : ℕ) → elem a c.recency ≡ true → address_at c.rows (row_number c.rows a) ≡ a
   listed_back a h = address_back c.rows a (here_of is_listed (get c.rows a) (sym (sound.listed a) ∙ h))
 
@@ -160,7 +159,7 @@ module _ (c : Cache) (sound : Sound c) (entries : (a : ℕ) (e : Entry) → get 
 
   pub numbered_of : Numbered c.rows (map (row_number c.rows) c.recency) (map (row_number c.rows) (addresses c.rows))
   numbered_of = record {
-    allowed = λ r. row_allowed (get_or c.rows r Free) (λ e q. entries e.address e (get_row c.rows r e sound.distinct q));
+    allowed = λ r. row_allowed (get_or c.rows r None) (λ e q. entries e.address e (get_row c.rows r e sound.distinct q));
     listed = by_number c.rows sound.distinct is_listed c.recency sound.listed;
     once = twice_to (row_number c.rows) (address_at c.rows) c.recency listed_back sound.once;
     used = by_number c.rows sound.distinct (λ e. true) (addresses c.rows) (elem_addresses c.rows);
@@ -186,12 +185,12 @@ at (y ∷ xs) x h =
     (λ p. let r = at xs x (rw p at h) in record { place = suc r.place; low = let l = r.low in omega arith; is = r.is })
 
 -- the numbers of rows that pass a test are below the row count
-pub number_below : (rows : List Row) (test : Entry → Bool) (xs : List ℕ) → ((r : ℕ) → elem r xs ≡ test_row test (get_or rows r Free)) → (i : ℕ) → i < length xs
+pub number_below : (rows : List Row) (test : Entry → Bool) (xs : List ℕ) → ((r : ℕ) → elem r xs ≡ test_row test (get_or rows r None)) → (i : ℕ) → i < length xs
     → get_or xs i 0 < length rows
 number_below rows test xs f i h =
     dite (dec_lt (get_or xs i 0) (length rows)) (λ (l : get_or xs i 0 < length rows). l)
     (λ (l : get_or xs i 0 < length rows → ⊥).
-    no _ (f (get_or xs i 0) ∙ ap (test_row test) (get_or-eq_default rows Free {n = get_or xs i 0} (omega arith))) (elem_at i xs h))
+    no _ (f (get_or xs i 0) ∙ ap (test_row test) (get_or-eq_default rows None {n = get_or xs i 0} (omega arith))) (elem_at i xs h))
 
 -- and a row past them is not among them
 pub none_past : (n : ℕ) (xs : List ℕ) → ((i : ℕ) → i < length xs → get_or xs i 0 < n) → (r : ℕ) → n ≤ r → elem r xs ≡ false

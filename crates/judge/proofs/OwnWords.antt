@@ -1,4 +1,5 @@
 -- The words of an allowed cache fit.
+use Rattle.std.specs.Prelude.{None}
 use Prim.Native.Nat.{ℕ, ◌+◌, ◌-◌, ◌≤◌, ◌<◌}
 use mathlib.Core.Path.{◌≡◌, refl, sym, ap, ◌∙◌}
 use mathlib.Core.Bool.{true}
@@ -10,8 +11,7 @@ use lib.Seq.{take_at}
 use Rattle.settings_words.specs.Words.{flag_of, settings_words}
 use Rattle.settings_words.specs.FloatsFit.{FloatsFit}
 use Rattle.settings_words.proofs.PictureLaws as settings
-use Rattle.rules.specs.declared.entry.Row.{Row}
-use Rattle.rules.specs.declared.entry.Row.TheVariants.{Free}
+use Rattle.rules.specs.Types.{Row}
 use Rattle.settings.specs.declared.Mode.{Mode}
 use Rattle.settings.specs.declared.Mode.TheVariants.{Alone, Lead, Standby}
 use Rattle.rules.specs.Addresses.{elem}
@@ -85,7 +85,7 @@ module _ (c : Cache) (ok : Allowed c) (rest : List ℕ) where
   -- ---- the rows
 
   abbrev row : ℕ → Row
-  row r = get_or c.rows r Free
+  row r = get_or c.rows r None
 
   words_is : (r : ℕ) → r < n → words_at ws r ≡ words_of (row r)
   unfolding encode

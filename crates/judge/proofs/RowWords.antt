@@ -1,4 +1,5 @@
 -- Rows and their words, both ways: words that fit are those of the row read from them, and the words of an allowed row fit.
+use Rattle.std.specs.Prelude.{None, Some}
 use Prim.Native.Nat.{ℕ, zero, suc, ◌+◌, ◌*◌, ◌≤◌, ◌<◌}
 use mathlib.Core.Path.{◌≡◌, refl, sym, ap, ◌∙◌}
 use mathlib.Core.Bool.{Bool, true, false, not}
@@ -13,8 +14,7 @@ use Rattle.settings_words.specs.Words.{flag_word, flag_of}
 use Rattle.rules.specs.declared.entry.Entry.{Entry}
 use Rattle.rules.specs.declared.entry.Hold.{Hold}
 use Rattle.rules.specs.declared.entry.Hold.TheVariants.{Unheld, Readers, Writer}
-use Rattle.rules.specs.declared.entry.Row.{Row}
-use Rattle.rules.specs.declared.entry.Row.TheVariants.{Free, Used}
+use Rattle.rules.specs.Types.{Row}
 use Rattle.rules.specs.Allowed.{HoldAllowed}
 use Rattle.rules.specs.Entries.{is_held, is_listed}
 use Rattle.rules.proofs.Tests.{choose}
@@ -26,8 +26,8 @@ use Rattle.judge.specs.Fits.{EntryFits, RowFits, free, entry, words_at}
 
 -- a test of a row; it fails where the row is free
 abbrev pub test_row : (Entry → Bool) → Row → Bool
-test_row test Free = false
-test_row test (Used e) = test e
+test_row test None = false
+test_row test (Some e) = test e
 
 -- ---- from words to a row
 
@@ -128,8 +128,8 @@ hold_free (Readers n) f = ne_eqb n 0 (λ (e : n ≡ 0). omega arith)
 hold_free Writer f = refl
 
 pub own_fits : (x : Row) → RowAllowed x → RowFits (words_of x) (test_row is_listed x)
-own_fits Free f = free (record { listing = refl; address = refl; size = refl; dirty = refl; idle = refl; pinned = refl; hold = refl })
-own_fits (Used e) f = entry (record {
+own_fits None f = free (record { listing = refl; address = refl; size = refl; dirty = refl; idle = refl; pinned = refl; hold = refl })
+own_fits (Some e) f = entry (record {
   size = record { some = λ (q : e.size ≡ 0). let h = f.nonempty in omega arith; most = f.size };
   dirty = flag_low e.dirty;
   idle = f.idle;
@@ -139,16 +139,16 @@ own_fits (Used e) f = entry (record {
 })
 
 pub own_used : (x : Row) → RowAllowed x → flag_of (words_of x).size ≡ test_row (λ e. true) x
-own_used Free f = refl
-own_used (Used e) f = rw (ne_eqb e.size 0 (λ (q : e.size ≡ 0). let h = f.nonempty in omega arith))
+own_used None f = refl
+own_used (Some e) f = rw (ne_eqb e.size 0 (λ (q : e.size ≡ 0). let h = f.nonempty in omega arith))
 
 pub own_address : (x : Row) → (words_of x).address ≡ address_of x
-own_address Free = refl
-own_address (Used e) = refl
+own_address None = refl
+own_address (Some e) = refl
 
 pub own_not_ones : (x : Row) → RowAllowed x → (words_of x).address ≡ ones → ⊥
-own_not_ones Free f h = absurd (omega arith)
-own_not_ones (Used e) f h = eqb-false e.address ones f.address h
+own_not_ones None f h = absurd (omega arith)
+own_not_ones (Some e) f h = eqb-false e.address ones f.address h
 
 -- ---- all rows
 
@@ -157,7 +157,7 @@ unfolding rows_of
 length_rows_of zero k ws = refl
 length_rows_of (suc n) k ws = ap suc (length_rows_of n (suc k) ws)
 
-pub get_d_rows_of : (n k : ℕ) (ws : List ℕ) (r : ℕ) → r < n → get_or (rows_of n k ws) r Free ≡ row_of (entry_of ws (k + r))
+pub get_d_rows_of : (n k : ℕ) (ws : List ℕ) (r : ℕ) → r < n → get_or (rows_of n k ws) r None ≡ row_of (entry_of ws (k + r))
 unfolding rows_of
 get_d_rows_of zero k ws r h = absurd (omega arith)
 get_d_rows_of (suc n) k ws zero h = rw (add-zero k)

@@ -17,7 +17,7 @@ use Rattle.layout.specs.Layout.{ones}
 use Rattle.layout.specs.Picture.{run, run_of}
 use Rattle.layout.proofs.Cuts.{get_d_run}
 use Rattle.layout.proofs.Seams.{length_run}
-use Rattle.judge.specs.Fits.{Ends, Below, RunFits, numbers}
+use Rattle.judge.specs.Fits.{Below, Named, RunFits, numbers}
 
 -- ---- from a list to words
 
@@ -90,19 +90,21 @@ module _ (n k : ℕ) (l : List ℕ) (few : length l ≤ n) (most : k ≤ most_ro
     once = rw own_numbers once;
   }
 
--- ---- what the two walks over a run find
+-- ---- what the walks over a run find
 
-module _ {ws : List ℕ} {k n : ℕ} (few : n ≤ most_rows) (e : Ends ws k) where
-  pub numbers_are : Below ws k n → numbers ws ≡ take k ws
-  numbers_are f = run_of_take ws k e.within (λ i h q. omega (arith, f i h)) e.rest
+module _ {ws named : List ℕ} {n : ℕ} (few : n ≤ most_rows) (e : Named ws named) where
+  named_at : (i : ℕ) → i < length named → get_or named i 0 ≡ get_or ws i 0
+  named_at i h = ap (λ (l : List ℕ). get_or l i 0) e.front ∙ get_or-take (length named) ws i 0 h
 
-  pub run_fits : Below ws k n → twice (take k ws) ≡ false → RunFits ws n
+  pub numbers_are : Below named (length named) n → numbers ws ≡ named
+  numbers_are f = run_of_take ws (length named) e.ends.within (λ i h q. omega (arith, f i h, named_at i h)) e.ends.rest ∙ sym e.front
+
+  pub run_fits : Below named (length named) n → twice named ≡ false → RunFits ws n
   run_fits f once =
-      let q : numbers ws ≡ take k ws = numbers_are f in
-      let m : length (take k ws) ≡ k = length-take-le k ws e.within in
+      let q : numbers ws ≡ named = numbers_are f in
       record {
-        words = run_forth ws k e.within e.rest ∙ ap (λ (l : List ℕ). run (length ws) l) (sym q);
-        below = rw q (λ i h. rw (get_or-take k ws i 0 (omega arith)) (f i (omega arith)));
+        words = run_forth ws (length named) e.ends.within e.ends.rest ∙ ap (λ (l : List ℕ). run (length ws) l) (sym e.front ∙ sym q);
+        below = rw q f;
         once = rw q once;
       }
 
@@ -113,17 +115,24 @@ module _ {ws : List ℕ} {k n : ℕ} (few : n ≤ most_rows) (e : Ends ws k) whe
     short : length (numbers ws) ≤ length ws
     short = length_run_of (length ws) ws
 
-    not_less : length (numbers ws) < k → ⊥
-    not_less h = e.last (omega arith) (read (k - 1) ∙ run_ones (length ws) (numbers ws) short (k - 1) (omega arith) (let w = e.within in omega arith))
+    not_less : length (numbers ws) < length named → ⊥
+    not_less h =
+        e.ends.last (omega arith)
+        (read (length named - 1) ∙ run_ones (length ws) (numbers ws) short (length named - 1) (omega arith) (let w = e.ends.within in omega arith))
 
-    not_more : k < length (numbers ws) → ⊥
+    not_more : length named < length (numbers ws) → ⊥
     not_more h =
+        let k = length named in
         let s = short in
-        let o : get_or ws k 0 ≡ ones = e.rest k (omega arith) (omega arith) in
+        let o : get_or ws k 0 ≡ ones = e.ends.rest k (omega arith) (omega arith) in
         omega (arith, read k, get_d_run (length ws) k (numbers ws) h, f.below k h)
 
-    pub length_is : length (numbers ws) ≡ k
+    length_is : length (numbers ws) ≡ length named
     length_is = omega (arith, not_less, not_more)
 
-    pub below_of : Below ws k n
-    below_of i h = rw (read i, get_d_run (length ws) i (numbers ws) (omega (arith, length_is))) (f.below i (omega (arith, length_is)))
+    pub below_of : Below named (length named) n
+    below_of i h =
+        rw (named_at i h, read i, get_d_run (length ws) i (numbers ws) (omega (arith, length_is))) (f.below i (omega (arith, length_is)))
+
+    pub named_is : numbers ws ≡ named
+    named_is = numbers_are below_of

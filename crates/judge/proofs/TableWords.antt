@@ -1,4 +1,5 @@
 -- Words that fit are those of the cache read from them, which is allowed; and the words of an allowed cache fit.
+use Rattle.std.specs.Prelude.{None}
 use Prim.Native.Nat.{ℕ, zero, suc, ◌+◌, ◌*◌, ◌-◌, ◌≤◌, ◌<◌}
 use mathlib.Core.Path.{◌≡◌, refl, sym, ap, ap₂, subst, ◌∙◌}
 use mathlib.Core.Bool.{true, false}
@@ -13,8 +14,7 @@ use Rattle.settings.specs.Validation.{first_bad}
 use Rattle.settings_words.specs.Picture.{settings_of}
 use Rattle.settings_words.specs.Words.{flag_word, flag_of, settings_words}
 use Rattle.settings_words.proofs.PictureLaws as settings
-use Rattle.rules.specs.declared.entry.Row.{Row}
-use Rattle.rules.specs.declared.entry.Row.TheVariants.{Free}
+use Rattle.rules.specs.Types.{Row}
 use Rattle.rules.specs.Addresses.{elem}
 use Rattle.rules.specs.Allowed.{Allowed}
 use Rattle.rules.specs.Entries.{is_listed}
@@ -58,12 +58,12 @@ module _ (ws : List ℕ) (n : ℕ) (long : layout_words n ≤ length ws)
   order_below = rw order_numbers at f.order_run.below
 
   -- what holds of each row, by its words
-  by_row : (P : ℕ → Row → Type 0) → ((r : ℕ) → r < n → P r (get_or rows r Free)) → ((r : ℕ) → n ≤ r → P r Free) → (r : ℕ) → P r (get_or rows r Free)
+  by_row : (P : ℕ → Row → Type 0) → ((r : ℕ) → r < n → P r (get_or rows r None)) → ((r : ℕ) → n ≤ r → P r None) → (r : ℕ) → P r (get_or rows r None)
   by_row P g d r =
       dite (dec_lt r n) (λ (h : r < n). g r h)
-      (λ (h : r < n → ⊥). subst (P r) (sym (get_or-eq_default rows Free {n = r} (omega (arith, length_rows_of n 0 ws)))) (d r (omega arith)))
+      (λ (h : r < n → ⊥). subst (P r) (sym (get_or-eq_default rows None {n = r} (omega (arith, length_rows_of n 0 ws)))) (d r (omega arith)))
 
-  row_is : (r : ℕ) → r < n → get_or rows r Free ≡ row_of (entry_of ws r)
+  row_is : (r : ℕ) → r < n → get_or rows r None ≡ row_of (entry_of ws r)
   row_is r h = get_d_rows_of n 0 ws r h ∙ ap (λ (k : ℕ). row_of (entry_of ws k)) (zero-add r)
 
   address_is : (i : ℕ) → i < length order → address_at rows (get_or order i 0) ≡ get_or ws (row_at (get_or order i 0)) 0

@@ -6,6 +6,8 @@ use Rattle.rules.specs.Addresses.{elem, twice}
 use Rattle.rules.specs.Limits.{most_rows, most_size, most_idle, most_threshold, count_stop}
 use Rattle.layout.specs.Layout.{ones, version, version_at, row_count_at, mode_at, threshold_at, maximum_at, accesses_at, hits_at, count_at, exceeded_at, settings_at, header_words, row_at, recency_at, addresses_at, layout_words}
 use Rattle.layout.specs.Picture.{run, run_of}
+use Rattle.judge.specs.declared.header.Figures.{Figures}
+use Rattle.judge.specs.declared.header.Opening.{Opening}
 use Rattle.judge.specs.declared.row.RowWords.{RowWords}
 
 -- r says whether P holds.
@@ -15,28 +17,46 @@ pub record Says (r : Bool) (P : Type 0) : Type 0 where
 
 -- ---- the header
 
--- Version, row count, mode and threshold.
-pub record OpeningFits (v n m t : ℕ) : Type 0 where
-  pub version : v ≡ version
-  pub some_rows : 1 ≤ n
-  pub rows : n ≤ most_rows
-  pub mode : m ≤ 2
-  pub some_bytes : 1 ≤ t
-  pub threshold : t ≤ most_threshold
+-- What is fixed at opening, by the words of a table.
+abbrev pub opening_in : List ℕ → Opening
+opening_in ws = record {
+  version = get_or ws version_at 0;
+  rows = get_or ws row_count_at 0;
+  mode = get_or ws mode_at 0;
+  threshold = get_or ws threshold_at 0;
+}
 
--- Maximum, accesses, hits, byte count and whether the maximum was exceeded, against the settings' largest size, smallest size and epoch length.
-pub record FiguresFit (x n h k f l s e : ℕ) : Type 0 where
-  pub least : s ≤ x
-  pub most : x ≤ l
-  pub accesses : n < e
-  pub hits : h ≤ n
-  pub exceeded : f ≤ 1
-  pub count : k ≤ count_stop
+-- Maximum, counters, byte count and whether the maximum was exceeded.
+abbrev pub figures_in : List ℕ → Figures
+figures_in ws = record {
+  maximum = get_or ws maximum_at 0;
+  accesses = get_or ws accesses_at 0;
+  hits = get_or ws hits_at 0;
+  count = get_or ws count_at 0;
+  exceeded = get_or ws exceeded_at 0;
+}
+
+pub record OpeningFits (o : Opening) : Type 0 where
+  pub version : o.version ≡ version
+  pub some_rows : 1 ≤ o.rows
+  pub rows : o.rows ≤ most_rows
+  pub mode : o.mode ≤ 2
+  pub some_bytes : 1 ≤ o.threshold
+  pub threshold : o.threshold ≤ most_threshold
+
+-- The figures against the settings' largest size, smallest size and epoch length.
+pub record FiguresFit (f : Figures) (l s e : ℕ) : Type 0 where
+  pub least : s ≤ f.maximum
+  pub most : f.maximum ≤ l
+  pub accesses : f.accesses < e
+  pub hits : f.hits ≤ f.accesses
+  pub exceeded : f.exceeded ≤ 1
+  pub count : f.count ≤ count_stop
 
 -- The settings' words, and the figures against them.
-pub record SettingsFit (ws : List ℕ) (x n h k f : ℕ) : Type 0 where
+pub record SettingsFit (ws : List ℕ) (f : Figures) : Type 0 where
   pub picture : picture ws ≡ true
-  pub figures : FiguresFit x n h k f (get_or ws 4 0) (get_or ws 5 0) (get_or ws 6 0)
+  pub figures : FiguresFit f (get_or ws 4 0) (get_or ws 5 0) (get_or ws 6 0)
 
 -- ---- a row
 
@@ -108,26 +128,31 @@ pub record Ends (ws : List ℕ) (k : ℕ) : Type 0 where
 abbrev pub Below : List ℕ → ℕ → ℕ → Type 0
 Below ws k n = (i : ℕ) → i < k → get_or ws i 0 < n
 
+-- The words of a run up to the last that is not all ones.
+pub record Named (ws named : List ℕ) : Type 0 where
+  pub ends : Ends ws (length named)
+  pub front : named ≡ take (length named) ws
+
 -- No row is marked yet.
 pub record Unmarked (seen : List Bool) : Type 0 where
   pub size : length seen ≡ most_rows
   pub none : (x : ℕ) → get_or seen x false ≡ false
 
--- r says whether the first k words are numbers, and then the rows that they name are marked.
-pub record Marked (r : Bool) (ws : List ℕ) (k n : ℕ) (seen : List Bool) : Type 0 where
-  pub says : Says r (Below ws k n)
-  pub shows : r ≡ true → (x : ℕ) → get_or seen x false ≡ elem x (take k ws)
+-- r says whether the words are numbers of rows, of n, and then the rows that they name are marked.
+pub record Marked (r : Bool) (named : List ℕ) (n : ℕ) (seen : List Bool) : Type 0 where
+  pub says : Says r (Below named (length named) n)
+  pub shows : r ≡ true → (x : ℕ) → get_or seen x false ≡ elem x named
 
 -- The first k words of a run lead to rising addresses.
 abbrev pub Rises : List ℕ → List ℕ → ℕ → Type 0
 Rises ws order k = (i : ℕ) → i + 1 < k → (words_at ws (get_or order i 0)).address < (words_at ws (get_or order (i + 1) 0)).address
 
--- The first k words of the address run are numbers of rows, of n, with rising addresses, none of them all ones; the first row is used.
-pub record OrderFits (ws order : List ℕ) (k n : ℕ) : Type 0 where
-  pub below : Below order k n
-  pub first : 0 < k → used_at ws (get_or order 0 0) ≡ true
-  pub rises : Rises ws order k
-  pub not_ones : (i : ℕ) → i < k → (words_at ws (get_or order i 0)).address ≡ ones → ⊥
+-- The words of an address run are numbers of rows, of n, with rising addresses, none of them all ones; the first row is used.
+pub record OrderFits (ws order : List ℕ) (n : ℕ) : Type 0 where
+  pub below : Below order (length order) n
+  pub first : 0 < length order → used_at ws (get_or order 0 0) ≡ true
+  pub rises : Rises ws order (length order)
+  pub not_ones : (i : ℕ) → i < length order → (words_at ws (get_or order i 0)).address ≡ ones → ⊥
 
 -- ---- the parts together
 
@@ -160,7 +185,7 @@ PartsOf ws n = PartsFit ws (part (recency_at n) (addresses_at n) ws) (part (addr
 
 pub record TableFits (ws : List ℕ) : Type 0 where
   pub whole : header_words ≤ length ws
-  pub opening : OpeningFits (get_or ws version_at 0) (get_or ws row_count_at 0) (get_or ws mode_at 0) (get_or ws threshold_at 0)
+  pub opening : OpeningFits (opening_in ws)
   pub long : layout_words (get_or ws row_count_at 0) ≤ length ws
-  pub settings : SettingsFit (drop settings_at ws) (get_or ws maximum_at 0) (get_or ws accesses_at 0) (get_or ws hits_at 0) (get_or ws count_at 0) (get_or ws exceeded_at 0)
+  pub settings : SettingsFit (drop settings_at ws) (figures_in ws)
   pub parts : PartsOf ws (get_or ws row_count_at 0)

@@ -1,11 +1,10 @@
 -- When a cache is allowed, and when the words of a lent table picture an allowed cache: refusal 1's list, as tests.
-use Rattle.std.specs.Prelude.{ℕ, Bool, true, false, not, ◌||◌, List, [], ◌∷◌, eqb, leb, ltb, length, get_or, take}
+use Rattle.std.specs.Prelude.{ℕ, Bool, true, false, not, ◌||◌, List, [], ◌∷◌, eqb, leb, ltb, length, get_or, take, None, Some}
 use Rattle.settings.specs.Validation.{first_bad}
 use Rattle.rules.specs.declared.entry.Entry.{Entry}
 use Rattle.rules.specs.declared.entry.Hold.{Hold}
 use Rattle.rules.specs.declared.entry.Hold.TheVariants.{Unheld, Readers, Writer}
-use Rattle.rules.specs.declared.entry.Row.{Row}
-use Rattle.rules.specs.declared.entry.Row.TheVariants.{Free, Used}
+use Rattle.rules.specs.Types.{Row}
 use Rattle.rules.specs.Addresses.{elem, twice}
 use Rattle.rules.specs.Cache.{Cache}
 use Rattle.rules.specs.Entries.{is_listed}
@@ -38,8 +37,8 @@ entry_allowed e =
 
 unfoldable pub every_entry : (Entry → Bool) → List Row → Bool
 every_entry test [] = true
-every_entry test (Free ∷ rows) = every_entry test rows
-every_entry test (Used e ∷ rows) = test e and every_entry test rows
+every_entry test (None ∷ rows) = every_entry test rows
+every_entry test (Some e ∷ rows) = test e and every_entry test rows
 
 unfoldable pub every_address : (ℕ → Bool) → List ℕ → Bool
 every_address test [] = true
@@ -48,8 +47,8 @@ every_address test (a ∷ rest) = test a and every_address test rest
 -- "Addresses are distinct": no later row has an entry's address.
 unfoldable pub distinct : List Row → Bool
 distinct [] = true
-distinct (Free ∷ rows) = distinct rows
-distinct (Used e ∷ rows) = not (is_here rows e.address) and distinct rows
+distinct (None ∷ rows) = distinct rows
+distinct (Some e ∷ rows) = not (is_here rows e.address) and distinct rows
 
 -- "Entries neither held nor pinned, and only those, stand in the recency list", once each.
 abbrev pub recency_allowed : List Row → List ℕ → Bool

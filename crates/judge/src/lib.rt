@@ -21,9 +21,7 @@
 // - All ones is the largest word, so of rising addresses only the last can be all ones.
 #![tactic(auto)]
 
-ghost use Rattle.std.specs.Prelude.{◌≡◌, ◌≤◌, length};
-ghost use Rattle.layout.specs.Layout.{row_at};
-ghost use Rattle.rules.specs.Limits.{most_rows};
+ghost use Rattle.std.specs.Prelude.{◌≡◌};
 ghost use Rattle.judge.specs.Fits.{Says, PartsFit};
 ghost use Rattle.judge.specs.Verdict.{judge_words};
 
@@ -32,32 +30,24 @@ mod row;
 mod rows;
 mod runs;
 
-use header::{opening_allowed, settings_allowed};
+use header::{figures_in, opening_allowed, opening_in, settings_allowed};
 use layout::place::{addresses_at, layout_words, recency_at};
-use layout::{
-    ACCESSES_AT, COUNT_AT, EXCEEDED_AT, HEADER, HITS_AT, MAXIMUM_AT, MODE_AT, ROW_COUNT_AT,
-    SETTINGS_AT, THRESHOLD_AT, VERSION_AT,
-};
-use rows::rows_allowed;
-use runs::{addresses_rise, mark_rows, run_length};
+use layout::{HEADER, SETTINGS_AT};
+use rows::{Rows, rows_allowed};
+use runs::{addresses_rise, mark_rows, named};
 
 const MOST_ROWS: usize = 4096;
 
 // The rows of a table, its recency run and its address run.
-fn parts_allowed(table: &[u64], recency: &[u64], order: &[u64], rows: usize) -> bool
-    requires { (rows ≤ most_rows) × (row_at rows ≤ length table.now) }
-    ensures { Says result (PartsFit table.now recency.now order.now rows) }
+fn parts_allowed(rows: &Rows, recency: &[u64], order: &[u64]) -> bool
+    ensures { Says result (PartsFit rows.now.table.now recency.now order.now rows.now.count) }
 {
+    let recent = named(recency);
+    let ordered = named(order);
     let mut listed = [false; MOST_ROWS];
-    let recent = run_length(recency);
-    if !mark_rows(recency, recent, rows, &mut listed) {
-        return false;
-    }
-    let ordered = run_length(order);
-    if !rows_allowed(table, rows, &listed, ordered, recent) {
-        return false;
-    }
-    addresses_rise(table, rows, order, ordered)
+    mark_rows(recent, rows.count, &mut listed)
+        && rows_allowed(rows, &listed, ordered.len(), recent.len())
+        && addresses_rise(rows, ordered)
 }
 
 // Whether the words picture an allowed cache.
@@ -67,26 +57,23 @@ pub fn judge(table: &[u64]) -> bool
     if table.len() < HEADER {
         return false;
     }
-    let rows = table[ROW_COUNT_AT] as usize;
-    if !opening_allowed(table[VERSION_AT], rows, table[MODE_AT], table[THRESHOLD_AT]) {
+    let opening = opening_in(table);
+    if !opening_allowed(opening) {
         return false;
     }
-    let recency = recency_at(rows);
-    let order = addresses_at(rows);
-    let end = layout_words(rows);
+    let count = opening.rows;
+    let recency = recency_at(count);
+    let order = addresses_at(count);
+    let end = layout_words(count);
     if table.len() < end {
         return false;
     }
-    let settings = &table[SETTINGS_AT..];
-    if !settings_allowed(
-        settings,
-        table[MAXIMUM_AT],
-        table[ACCESSES_AT],
-        table[HITS_AT],
-        table[COUNT_AT],
-        table[EXCEEDED_AT],
-    ) {
+    if !settings_allowed(&table[SETTINGS_AT..], figures_in(table)) {
         return false;
     }
-    parts_allowed(table, &table[recency..order], &table[order..end], rows)
+    parts_allowed(
+        &Rows { table, count },
+        &table[recency..order],
+        &table[order..end],
+    )
 }

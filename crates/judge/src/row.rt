@@ -13,7 +13,7 @@ const MOST_IDLE: u64 = 10;
 const WRITER: u64 = 65536;
 
 // The words of a row, in their order.
-#[derive(Clone, Copy)]
+#[derive(Clone, Copy, PartialEq)]
 pub struct RowWords {
     pub address: u64,
     pub size: u64,
@@ -22,6 +22,15 @@ pub struct RowWords {
     pub pinned: u64,
     pub hold: u64,
 }
+
+const FREE: RowWords = RowWords {
+    address: 0,
+    size: 0,
+    dirty: 0,
+    idle: 0,
+    pinned: 0,
+    hold: 0,
+};
 
 pub fn words_at(table: &[u64], row: usize) -> RowWords
     requires { row_at row + width ≤ length table.now }
@@ -42,30 +51,26 @@ pub fn words_at(table: &[u64], row: usize) -> RowWords
 pub fn size_allowed(size: u64) -> bool
     ensures { Says result (SizeFits size) }
 {
-    (size != 0) & (size <= MOST_SIZE)
+    (1..=MOST_SIZE).contains(&size)
 }
 
 // A free row: all its words are 0, and it is not listed.
 pub fn free_allowed(row: RowWords, listed: bool) -> bool
     ensures { Says result (FreeFits row listed) }
 {
-    !listed
-        & (row.address == 0)
-        & (row.size == 0)
-        & (row.dirty == 0)
-        & (row.idle == 0)
-        & (row.pinned == 0)
-        & (row.hold == 0)
+    !listed && row == FREE
 }
 
 // A row with the size of an entry: its other words but the address, which is judged along the address
-// run. It is listed if it is neither held nor pinned.
+// run. It is listed if it is neither held nor pinned. The tests are joined by &: with && there is a
+// branch for each, and judge takes 1.05 times as long.
 pub fn entry_allowed(row: RowWords, listed: bool) -> bool
     requires { SizeFits row.size }
     ensures { Says result (EntryFits row listed) }
 {
-    if !((row.dirty <= 1) & (row.idle <= MOST_IDLE) & (row.pinned <= 1) & (row.hold <= WRITER)) {
-        return false;
-    }
-    listed == ((row.hold == 0) & (row.pinned == 0))
+    (row.dirty <= 1)
+        & (row.idle <= MOST_IDLE)
+        & (row.pinned <= 1)
+        & (row.hold <= WRITER)
+        & (listed == ((row.hold == 0) & (row.pinned == 0)))
 }

@@ -1,4 +1,5 @@
 -- The words of a fresh cache: a head, zeros for the rows, all ones for the runs.
+use Rattle.std.specs.Prelude.{None}
 use Prim.Native.Nat.{ℕ, zero, suc, ◌+◌, ◌*◌, ◌-◌}
 use mathlib.Core.List.{List, [], ◌++◌, append_assoc}
 use mathlib.Core.Path.{◌≡◌, refl, sym, ap, ◌∙◌}
@@ -7,20 +8,20 @@ use lib.ListN.{length, drop, replicate, length-append, length-replicate, replica
 use Rattle.settings.specs.declared.Settings.{Settings}
 use Rattle.settings_words.specs.Words.{settings_words}
 use Rattle.settings_words.proofs.Flat.{words_length}
-use Rattle.rules.specs.declared.entry.Row.TheVariants.{Free}
 use Rattle.settings.specs.declared.Mode.{Mode}
+use Rattle.rules.specs.Types.{Row}
 use Rattle.rules.specs.Cache.{fresh}
 use Rattle.layout.specs.Layout.{ones, header_words, width, recency_at, layout_words, settings_at}
 use Rattle.layout.specs.Leaves.{put_settings, fill_part}
 use Rattle.layout.specs.Picture.{addresses, rows_words, run, first_words, encode}
 use Rattle.layout.proofs.Leaves.{over_next}
 
-addresses_free : (n : ℕ) → addresses (replicate n Free) ≡ []
+addresses_free : (n : ℕ) → addresses (replicate n None) ≡ []
 unfolding addresses
 addresses_free zero = refl
 addresses_free (suc n) = addresses_free n
 
-rows_free : (n : ℕ) → rows_words (replicate n Free) ≡ replicate (n * width) 0
+rows_free : (n : ℕ) → rows_words (replicate n None) ≡ replicate (n * width) 0
 unfolding rows_words
 rows_free zero = refl
 rows_free (suc n) =
@@ -39,7 +40,7 @@ module _ (n : ℕ) (m : Mode) (t : ℕ) (s : Settings) (ws : List ℕ) where
   encode_free : (rest : List ℕ)
       → encode (fresh n m t s) rest ≡ (first ++ settings_words s) ++ (replicate (n * width) 0 ++ (replicate n ones ++ (replicate n ones ++ rest)))
   unfolding encode
-  encode_free rest = rw (length-replicate n Free, addresses_free n, rows_free n, run_free n)
+  encode_free rest = rw (length-replicate {A = Row} n None, addresses_free n, rows_free n, run_free n)
 
   pub fresh_words : fill_part (recency_at n) (n + n) ones (fill_part header_words (n * width) 0 (put_settings s (first ++ drop settings_at ws)))
       ≡ encode (fresh n m t s) (drop (layout_words n) ws)

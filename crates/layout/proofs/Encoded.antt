@@ -2,7 +2,7 @@
 use Prim.Native.Nat.{ℕ, ◌+◌, ◌<◌, ◌≤◌}
 use mathlib.Core.Bool.{Bool, true, false}
 use mathlib.Core.List.{List, [], ◌∷◌, ◌++◌, map}
-use mathlib.Core.Option.{none, some}
+use Rattle.std.specs.Prelude.{None, Some}
 use mathlib.Core.Path.{◌≡◌, refl, sym, ap, ap₂, ◌∙◌}
 use native.Mathlib.Omega.{arith}
 use lib.ListN.{length, get_or, set, length-map, length-set}
@@ -12,8 +12,7 @@ use Rattle.settings_words.specs.Words.{flag_word, settings_words}
 use Rattle.settings_words.proofs.Flat.{words_length}
 use Rattle.words.specs.Runs.{removed, inserted}
 use Rattle.rules.specs.declared.entry.Entry.{Entry}
-use Rattle.rules.specs.declared.entry.Row.TheVariants.{Free, Used}
-use Rattle.rules.specs.declared.entry.Row.{Row}
+use Rattle.rules.specs.Types.{Row}
 use Rattle.rules.specs.Addresses.{elem, strike, twice}
 use Rattle.rules.specs.Allowed.{Distinct}
 use Rattle.rules.specs.Cache.{Cache, with_rows, with_settings, with_maximum, with_counters, with_count, with_next, with_exceeded, amend_at}
@@ -49,7 +48,7 @@ module _ (c : Cache) (rest : List ℕ) where
       (map (row_number rows) k) (map (row_number rows) (addresses rows)) rest) (sym e))
 
   -- a word of a row
-  pub encode_word : (i k : ℕ) → i < length c.rows → k < width → get_or (encode c rest) (row_at i + k) 0 ≡ get_or (row_words (get_or c.rows i Free)) k 0
+  pub encode_word : (i k : ℕ) → i < length c.rows → k < width → get_or (encode c rest) (row_at i + k) 0 ≡ get_or (row_words (get_or c.rows i None)) k 0
   unfolding encode
   encode_word i k l q = row_word (head_words c) c.rows (length_head c) _ _ rest i l k q
 
@@ -62,19 +61,19 @@ module _ (c : Cache) (rest : List ℕ) where
         laid_encode (amend a f c.rows) c.recency (length_amend a f c.rows) (map_same _ _ c.recency same)
         (map_same _ _ (addresses c.rows) same ∙ ap (map (row_number (amend a f c.rows))) (sym (addresses_amend a f keeps c.rows)))
 
-    module _ (e : Entry) (d : Distinct c.rows) (g : get c.rows a ≡ some e) where
-      pub amend_encode : put_row (row_number c.rows a) (Used (f e)) (encode c rest) ≡ encode (amend_at a f c) rest
+    module _ (e : Entry) (d : Distinct c.rows) (g : get c.rows a ≡ Some e) where
+      pub amend_encode : put_row (row_number c.rows a) (Some (f e)) (encode c rest) ≡ encode (amend_at a f c) rest
       unfolding encode
       amend_encode =
           let s = stands c.rows a e g in
-          row_put (head_words c) c.rows (length_head c) _ _ rest (row_number c.rows a) s.low (Used (f e))
+          row_put (head_words c) c.rows (length_head c) _ _ rest (row_number c.rows a) s.low (Some (f e))
           ∙ ap (λ (rows : List Row). laid (head_words c) rows (numbers c.recency) (numbers (addresses c.rows)) rest)
           (sym (ap (λ (x : ℕ). amend x f c.rows) (sym s.address) ∙ amend_row f c.rows (row_number c.rows a) e d s.row))
           ∙ amended
 
   -- one word of a used row written
   pub word_encode : (i k v : ℕ) (f : Entry → Entry) → ((x : Entry) → (f x).address ≡ x.address) → (e : Entry) → Distinct c.rows → i < length c.rows → k < width
-      → get_or c.rows i Free ≡ Used e → set (row_words (Used e)) k v ≡ row_words (Used (f e)) → set (encode c rest) (row_at i + k) v ≡ encode (amend_at e.address f c) rest
+      → get_or c.rows i None ≡ Some e → set (row_words (Some e)) k v ≡ row_words (Some (f e)) → set (encode c rest) (row_at i + k) v ≡ encode (amend_at e.address f c) rest
   unfolding encode
   word_encode i k v f keeps e d low q u w =
       word_put (head_words c) c.rows (length_head c) _ _ rest i low e (f e) k v q u w
@@ -104,9 +103,9 @@ module _ (c : Cache) (rest : List ℕ) where
 
   -- ---- an entry that is in no list goes: its place among the addresses, and its row
 
-  module _ (a : ℕ) (e : Entry) (d : Distinct c.rows) (g : get c.rows a ≡ some e) (unlisted : elem a c.recency ≡ false) (short : length c.recency ≤ length c.rows) where
+  module _ (a : ℕ) (e : Entry) (d : Distinct c.rows) (g : get c.rows a ≡ Some e) (unlisted : elem a c.recency ≡ false) (short : length c.recency ≤ length c.rows) where
     pub remove_encode : (at : ℕ) → at < length (addresses c.rows) → get_or (addresses c.rows) at 0 ≡ a
-        → put_row (row_number c.rows a) Free (run_cut (addresses_at (length c.rows)) (length c.rows) at (encode c rest)) ≡ encode (with_rows (remove a c.rows) c.recency c) rest
+        → put_row (row_number c.rows a) None (run_cut (addresses_at (length c.rows)) (length c.rows) at (encode c rest)) ≡ encode (with_rows (remove a c.rows) c.recency c) rest
     unfolding encode run_cut
     remove_encode at h q =
         let n = same_length c.recency in
@@ -114,9 +113,9 @@ module _ (c : Cache) (rest : List ℕ) where
         let u = used_most c.rows in
         let s = stands c.rows a e g in
         let r = row_number c.rows a in
-        ap (put_row r Free)
+        ap (put_row r None)
         (over_addresses (head_words c) c.rows (length_head c) _ _ rest (omega arith) (omega arith) (removed at) (cut at (numbers (addresses c.rows))) (cut_run _ at _ (omega arith) (omega arith)))
-        ∙ row_put (head_words c) c.rows (length_head c) _ _ rest r s.low Free
+        ∙ row_put (head_words c) c.rows (length_head c) _ _ rest r s.low None
         ∙ ap (λ (rows : List Row). laid (head_words c) rows (numbers c.recency) (cut at (numbers (addresses c.rows))) rest)
         (sym (ap (λ (x : ℕ). remove x c.rows) (sym s.address) ∙ remove_row c.rows r e d s.row))
         ∙ laid_encode (remove a c.rows) c.recency (length_remove a c.rows) (others c.recency unlisted) (less at h q)
@@ -134,10 +133,10 @@ module _ (c : Cache) (rest : List ℕ) where
 
   -- ---- an entry comes into the lowest free row, and to its place among the addresses
 
-  module _ (e : Entry) (d : Distinct c.rows) (h : has_free c.rows ≡ true) (n : get c.rows e.address ≡ none)
+  module _ (e : Entry) (d : Distinct c.rows) (h : has_free c.rows ≡ true) (n : get c.rows e.address ≡ None)
       (unlisted : elem e.address c.recency ≡ false) (short : length c.recency ≤ length c.rows) (free : length (addresses c.rows) < length c.rows) where
     pub place_encode : run_put (addresses_at (length c.rows)) (length c.rows) (place_of e.address (addresses c.rows)) (lowest_free c.rows)
-        (put_row (lowest_free c.rows) (Used e) (encode c rest)) ≡ encode (with_rows (place e c.rows) c.recency c) rest
+        (put_row (lowest_free c.rows) (Some e) (encode c rest)) ≡ encode (with_rows (place e c.rows) c.recency c) rest
     unfolding encode run_put
     place_encode =
         let i = same_length c.recency in
@@ -145,9 +144,9 @@ module _ (c : Cache) (rest : List ℕ) where
         let r = lowest_free c.rows in
         let at = place_of e.address (addresses c.rows) in
         let low = place_low e.address (addresses c.rows) in
-        let rows : List Row = set c.rows r (Used e) in
-        let s = length-set c.rows r (Used e) in
-        ap (over (addresses_at (length c.rows)) (length c.rows) (inserted at r)) (row_put (head_words c) c.rows (length_head c) _ _ rest r (lowest_low c.rows h) (Used e))
+        let rows : List Row = set c.rows r (Some e) in
+        let s = length-set c.rows r (Some e) in
+        ap (over (addresses_at (length c.rows)) (length c.rows) (inserted at r)) (row_put (head_words c) c.rows (length_head c) _ _ rest r (lowest_low c.rows h) (Some e))
         ∙ ap (λ (k : ℕ). over (addresses_at k) k (inserted at r) (laid (head_words c) rows (numbers c.recency) (numbers (addresses c.rows)) rest)) (sym s)
         ∙ over_addresses (head_words c) rows (length_head c) _ _ rest (omega arith) (omega arith) (inserted at r) (ins at r (numbers (addresses c.rows))) (put_run _ at r _ (omega arith) (omega arith))
         ∙ ap (λ (x : List Row). laid (head_words c) x (numbers c.recency) (ins at r (numbers (addresses c.rows))) rest) (sym (place_row e c.rows))

@@ -2,15 +2,14 @@
 use Prim.Native.Nat.{ℕ, zero, suc, ◌+◌, ◌<◌, ◌≤◌}
 use mathlib.Core.Bool.{true}
 use mathlib.Core.List.{List, [], ◌∷◌, ◌++◌, map}
-use mathlib.Core.Option.{some}
+use Rattle.std.specs.Prelude.{Some, None}
 use mathlib.Core.Path.{◌≡◌, sym, ap, subst, ◌∙◌}
 use native.Mathlib.Omega.{arith}
 use lib.ListN.{length, get_or, take, drop, length-map}
 use lib.Seq.{take_at}
 use Rattle.settings_words.specs.FloatsFit.{FloatsFit}
 use Rattle.rules.specs.declared.entry.Entry.{Entry}
-use Rattle.rules.specs.declared.entry.Row.TheVariants.{Free}
-use Rattle.rules.specs.declared.entry.Row.{Row}
+use Rattle.rules.specs.Types.{Row}
 use Rattle.rules.specs.Allowed.{Allowed}
 use Rattle.rules.specs.Cache.{Cache}
 use Rattle.rules.specs.Entries.{is_listed}
@@ -126,21 +125,21 @@ module _ {ws : List ℕ} {c : Cache} {rest : List ℕ} (h : Holds ws c rest) whe
 
   -- ---- the rows
 
-  pub holds_word : (i k : ℕ) → i < length c.rows → k < width → get_or ws (row_at i + k) 0 ≡ get_or (row_words (get_or c.rows i Free)) k 0
+  pub holds_word : (i k : ℕ) → i < length c.rows → k < width → get_or ws (row_at i + k) 0 ≡ get_or (row_words (get_or c.rows i None)) k 0
   holds_word i k l q = ap (λ (x : List ℕ). get_or x (row_at i + k) 0) h.words ∙ encode_word c rest i k l q
 
   pub all_allowed : RowsAllowed c.rows
   all_allowed = rows_allowed c.rows h.steady.sound.distinct h.steady.entries
 
-  pub row_allowed : (i : ℕ) → RowAllowed (get_or c.rows i Free)
+  pub row_allowed : (i : ℕ) → RowAllowed (get_or c.rows i None)
   row_allowed i = go c.rows i all_allowed
     where
-      go : (rows : List Row) (i : ℕ) → RowsAllowed rows → RowAllowed (get_or rows i Free)
+      go : (rows : List Row) (i : ℕ) → RowsAllowed rows → RowAllowed (get_or rows i None)
       go [] i f = tt
       go (x ∷ rows) zero f = f.0
       go (x ∷ rows) (suc i) f = go rows i f.1
 
-  pub holds_entry : (a : ℕ) (e : Entry) → get c.rows a ≡ some e → entry_of ws (row_number c.rows a) ≡ e
+  pub holds_entry : (a : ℕ) (e : Entry) → get c.rows a ≡ Some e → entry_of ws (row_number c.rows a) ≡ e
   unfolding encode
   holds_entry a e g =
       let s = stands c.rows a e g in

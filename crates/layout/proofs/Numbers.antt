@@ -2,15 +2,15 @@
 use Prim.Native.Nat.{ℕ, suc, ◌<◌, ◌≤◌}
 use mathlib.Core.Bool.{Bool, true, false, false≢true}
 use mathlib.Core.List.{List, [], ◌∷◌, map}
-use mathlib.Core.Option.{Option, none, some, some-ne-none}
+use Rattle.std.proofs.lemmas.Option.{none-some}
+use Rattle.std.specs.Prelude.{Option, None, Some}
 use mathlib.Core.Path.{◌≡◌, refl, sym, ap, ap₂, ◌∙◌}
 use native.Mathlib.Omega.{arith}
 use lib.Dec.{eqb, ltb}
 use lib.ListN.{length, get_or}
 use borrow.Author.Tests.{eqb-true, eqb-false, ltb-true, ltb-false, lt-ltb, le-ltb}
 use Rattle.rules.specs.declared.entry.Entry.{Entry}
-use Rattle.rules.specs.declared.entry.Row.TheVariants.{Free, Used}
-use Rattle.rules.specs.declared.entry.Row.{Row}
+use Rattle.rules.specs.Types.{Row}
 use Rattle.rules.specs.Addresses.{elem, strike, twice, insert_rising}
 use Rattle.rules.specs.Allowed.{Distinct, Sound}
 use Rattle.rules.specs.Cache.{Cache}
@@ -28,25 +28,25 @@ use Rattle.layout.proofs.Rising.{Each, each_of, each_then, rising_strike, length
 -- ---- where an address stands
 
 pub record Stands (rows : List Row) (a : ℕ) (e : Entry) : Type 0 where
-  pub row : get_or rows (row_number rows a) Free ≡ Used e
+  pub row : get_or rows (row_number rows a) None ≡ Some e
   pub low : row_number rows a < length rows
   pub address : e.address ≡ a
 
-pub stands : (rows : List Row) (a : ℕ) (e : Entry) → get rows a ≡ some e → Stands rows a e
+pub stands : (rows : List Row) (a : ℕ) (e : Entry) → get rows a ≡ Some e → Stands rows a e
 unfolding get row_number
-stands [] a e h = absurd (some-ne-none e (sym h))
-stands (Free ∷ rows) a e h = let k = stands rows a e h in record { row = k.row; low = let l = k.low in omega arith; address = k.address }
-stands (Used x ∷ rows) a e h =
+stands [] a e h = absurd (none-some e h)
+stands (None ∷ rows) a e h = let k = stands rows a e h in record { row = k.row; low = let l = k.low in omega arith; address = k.address }
+stands (Some x ∷ rows) a e h =
     split (eqb x.address a)
-    (λ p. let q : some x ≡ some e = simp p at h in
+    (λ p. let q : Some x ≡ Some e = simp p at h in
     let s : x ≡ e = cc in
     record { row = rw (p, s); low = rw p (omega arith); address = sym (ap (λ (z : Entry). z.address) s) ∙ eqb-true x.address a p })
     (λ p. let k = stands rows a e (simp p at h) in record { row = rw p k.row; low = rw p (let l = k.low in omega arith); address = k.address })
 
 -- an address that has a row
 pub here_of : (test : Entry → Bool) (o : Option Entry) → passes test o ≡ true → passes (λ e. true) o ≡ true
-here_of test none h = absurd (false≢true h)
-here_of test (some e) h = refl
+here_of test None h = absurd (false≢true h)
+here_of test (Some e) h = refl
 
 module _ (rows : List Row) (a : ℕ) (h : is_here rows a ≡ true) where
   pub number_low : row_number rows a < length rows
@@ -71,8 +71,8 @@ numbers_low rows n l k h = each_then (Here rows) (λ (r : ℕ). r < n) (row_numb
 as_dirty : (rows : List Row) → addresses rows ≡ dirty_rising (amend_all (with_dirty true) rows)
 unfolding addresses dirty_rising amend_all
 as_dirty [] = refl
-as_dirty (Free ∷ rows) = as_dirty rows
-as_dirty (Used e ∷ rows) = ap (insert_rising e.address) (as_dirty rows)
+as_dirty (None ∷ rows) = as_dirty rows
+as_dirty (Some e ∷ rows) = ap (insert_rising e.address) (as_dirty rows)
 
 pub rising_addresses : (rows : List Row) → Distinct rows → Rising (addresses rows)
 rising_addresses rows d =
@@ -81,8 +81,8 @@ rising_addresses rows d =
 pub elem_addresses : (rows : List Row) (b : ℕ) → elem b (addresses rows) ≡ is_here rows b
 unfolding elem addresses get
 elem_addresses [] b = refl
-elem_addresses (Free ∷ rows) b = elem_addresses rows b
-elem_addresses (Used e ∷ rows) b =
+elem_addresses (None ∷ rows) b = elem_addresses rows b
+elem_addresses (Some e ∷ rows) b =
     split (eqb e.address b)
     (λ q. simp (q, elem_insert))
     (λ q. simp (q, elem_insert, elem_addresses rows b))
@@ -94,14 +94,14 @@ addresses_remove a rows d =
     (λ b. rw (elem_addresses (remove a rows) b, elem_strike a b (addresses rows), elem_addresses rows b, get_remove a b rows)
     (split (eqb a b) (λ q. simp q) (λ q. simp q)))
 
-pub addresses_place : (e : Entry) (rows : List Row) → has_free rows ≡ true → get rows e.address ≡ none
+pub addresses_place : (e : Entry) (rows : List Row) → has_free rows ≡ true → get rows e.address ≡ None
     → addresses (place e rows) ≡ insert_rising e.address (addresses rows)
 unfolding addresses place has_free get
 addresses_place e [] h n = absurd (false≢true h)
-addresses_place e (Free ∷ rows) h n = refl
-addresses_place e (Used x ∷ rows) h n =
+addresses_place e (None ∷ rows) h n = refl
+addresses_place e (Some x ∷ rows) h n =
     split (eqb x.address e.address)
-    (λ p. absurd (some-ne-none x (simp p at n)))
+    (λ p. absurd (none-some x (sym (simp p at n))))
     (λ p. ap (insert_rising x.address) (addresses_place e rows h (simp p at n)) ∙ either_way x.address e.address (addresses rows) p)
   where
     either_way : (a b : ℕ) (l : List ℕ) → eqb a b ≡ false → insert_rising a (insert_rising b l) ≡ insert_rising b (insert_rising a l)
@@ -115,8 +115,8 @@ addresses_place e (Used x ∷ rows) h n =
 pub used_most : (rows : List Row) → length (addresses rows) ≤ length rows
 unfolding addresses
 used_most [] = omega arith
-used_most (Free ∷ rows) = let h = used_most rows in omega arith
-used_most (Used e ∷ rows) = let h = used_most rows in let l = length_insert e.address (addresses rows) in omega arith
+used_most (None ∷ rows) = let h = used_most rows in omega arith
+used_most (Some e ∷ rows) = let h = used_most rows in let l = length_insert e.address (addresses rows) in omega arith
 
 ltb_suc : (m n : ℕ) → ltb m n ≡ ltb (suc m) (suc n)
 ltb_suc m n =
@@ -128,8 +128,8 @@ ltb_suc m n =
 pub free_is : (rows : List Row) → has_free rows ≡ ltb (length (addresses rows)) (length rows)
 unfolding has_free addresses
 free_is [] = refl
-free_is (Free ∷ rows) = let h = used_most rows in sym (lt-ltb (length (addresses rows)) (suc (length rows)) (omega arith))
-free_is (Used e ∷ rows) =
+free_is (None ∷ rows) = let h = used_most rows in sym (lt-ltb (length (addresses rows)) (suc (length rows)) (omega arith))
+free_is (Some e ∷ rows) =
     free_is rows ∙ ltb_suc (length (addresses rows)) (length rows)
     ∙ ap (λ (n : ℕ). ltb n (suc (length rows))) (sym (length_insert e.address (addresses rows)))
 
@@ -147,8 +147,8 @@ pub pigeon : (rows : List Row) (l : List ℕ) → twice l ≡ false → ((b : �
 unfolding addresses get
 pigeon [] [] t h = omega arith
 pigeon [] (a ∷ l) t h = absurd (false≢true (h a (elem_first a l)))
-pigeon (Free ∷ rows) l t h = pigeon rows l t h
-pigeon (Used e ∷ rows) l t h =
+pigeon (None ∷ rows) l t h = pigeon rows l t h
+pigeon (Some e ∷ rows) l t h =
     let k = strike_one e.address l t in
     let ih = pigeon rows (strike e.address l) (twice_strike e.address l t) later in
     let i = length_insert e.address (addresses rows) in

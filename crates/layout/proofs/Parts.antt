@@ -1,4 +1,5 @@
 -- The leaf operations on a table's words, part by part: a row, a word of a row, a run.
+use Rattle.std.specs.Prelude.{None, Some}
 use Prim.Native.Nat.{ℕ, suc, ◌+◌, ◌≤◌, ◌<◌}
 use mathlib.Core.List.{List, [], ◌∷◌, ◌++◌, append_assoc}
 use mathlib.Core.Path.{◌≡◌, refl, sym, ap, ◌∙◌}
@@ -6,8 +7,7 @@ use native.Mathlib.Omega.{arith}
 use lib.ListN.{length, take, drop, get_or, set, length-append, length-set, get_or-append}
 use lib.Seq.{take_at, drop_at, split_at, set_split, length-take-le, set-append_left}
 use Rattle.rules.specs.declared.entry.Entry.{Entry}
-use Rattle.rules.specs.declared.entry.Row.TheVariants.{Free, Used}
-use Rattle.rules.specs.declared.entry.Row.{Row}
+use Rattle.rules.specs.Types.{Row}
 use Rattle.rules.specs.Allowed.{HoldAllowed}
 use Rattle.layout.specs.Layout.{header_words, width, row_at, recency_at, addresses_at}
 use Rattle.layout.specs.Leaves.{over, put_row}
@@ -51,11 +51,11 @@ module _ (head : List ℕ) (rows : List Row) (h : length head ≡ header_words) 
   length_before : length before ≡ row_at r
   length_before = simp length-append (omega (arith, length_rows (take r rows), length-take-le r rows (omega arith)))
 
-  row_at_seam : laid head rows l m rest ≡ before ++ (row_words (get_or rows r Free) ++ after)
+  row_at_seam : laid head rows l m rest ≡ before ++ (row_words (get_or rows r None) ++ after)
   row_at_seam =
       ap (λ (x : List ℕ). head ++ (x ++ (run (length rows) l ++ (run (length rows) m ++ rest))))
-      (ap rows_words (split_at rows r Free low) ∙ rows_one (take r rows) (get_or rows r Free) (drop (suc r) rows))
-      ∙ grouped head (rows_words (take r rows)) (row_words (get_or rows r Free)) (rows_words (drop (suc r) rows)) _
+      (ap rows_words (split_at rows r None low) ∙ rows_one (take r rows) (get_or rows r None) (drop (suc r) rows))
+      ∙ grouped head (rows_words (take r rows)) (row_words (get_or rows r None)) (rows_words (drop (suc r) rows)) _
 
   row_set : (x : Row) → laid head (set rows r x) l m rest ≡ before ++ (row_words x ++ after)
   row_set x =
@@ -68,27 +68,27 @@ module _ (head : List ℕ) (rows : List Row) (h : length head ≡ header_words) 
   unfolding put_row
   row_put x =
       ap (over (row_at r) width (λ old. row_words x)) row_at_seam
-      ∙ over_seam (λ old. row_words x) before (row_words (get_or rows r Free)) after (row_at r) width length_before (length_row (get_or rows r Free))
+      ∙ over_seam (λ old. row_words x) before (row_words (get_or rows r None)) after (row_at r) width length_before (length_row (get_or rows r None))
       ∙ sym (row_set x)
 
   -- one word of a used row written
-  pub word_put : (e f : Entry) (k v : ℕ) → k < width → get_or rows r Free ≡ Used e → set (row_words (Used e)) k v ≡ row_words (Used f)
-      → set (laid head rows l m rest) (row_at r + k) v ≡ laid head (set rows r (Used f)) l m rest
+  pub word_put : (e f : Entry) (k v : ℕ) → k < width → get_or rows r None ≡ Some e → set (row_words (Some e)) k v ≡ row_words (Some f)
+      → set (laid head rows l m rest) (row_at r + k) v ≡ laid head (set rows r (Some f)) l m rest
   word_put e f k v q u w =
       ap (λ (ws : List ℕ). set ws (row_at r + k) v) (row_at_seam ∙ ap (λ (x : Row). before ++ (row_words x ++ after)) u)
-      ∙ set_seam before (row_words (Used e)) after (row_at r) k v length_before (omega arith)
+      ∙ set_seam before (row_words (Some e)) after (row_at r) k v length_before (omega arith)
       ∙ ap (λ (x : List ℕ). before ++ (x ++ after)) w
-      ∙ sym (row_set (Used f))
+      ∙ sym (row_set (Some f))
 
   -- a word of the row
-  pub row_word : (k : ℕ) → k < width → get_or (laid head rows l m rest) (row_at r + k) 0 ≡ get_or (row_words (get_or rows r Free)) k 0
+  pub row_word : (k : ℕ) → k < width → get_or (laid head rows l m rest) (row_at r + k) 0 ≡ get_or (row_words (get_or rows r None)) k 0
   row_word k q =
       ap (λ (ws : List ℕ). get_or ws (row_at r + k) 0) row_at_seam
       ∙ past before _ (row_at r) k length_before
-      ∙ get_or-append (row_words (get_or rows r Free)) _ 0 k (let e = length_row (get_or rows r Free) in omega arith)
+      ∙ get_or-append (row_words (get_or rows r None)) _ 0 k (let e = length_row (get_or rows r None) in omega arith)
 
   -- the entry of the row
-  pub row_entry : (e : Entry) → get_or rows r Free ≡ Used e → HoldAllowed e.hold → entry_of (laid head rows l m rest) r ≡ e
+  pub row_entry : (e : Entry) → get_or rows r None ≡ Some e → HoldAllowed e.hold → entry_of (laid head rows l m rest) r ≡ e
   row_entry e u k =
       ap (λ (ws : List ℕ). entry_of ws r) (row_at_seam ∙ ap (λ (x : Row). before ++ (row_words x ++ after)) u)
       ∙ entry_seam before after r length_before e k

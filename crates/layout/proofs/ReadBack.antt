@@ -1,7 +1,8 @@
 -- The cache that a cache's words picture is that cache, and what lies past them is the rest.
 use Prim.Native.Nat.{ℕ, zero, suc, ◌-◌, ◌≤◌, ◌<◌}
 use mathlib.Core.List.{List, [], ◌∷◌, ◌++◌, append_assoc, map}
-use mathlib.Core.Option.{some, some-ne-none}
+use Rattle.std.proofs.lemmas.Option.{none-some}
+use Rattle.std.specs.Prelude.{Some, None}
 use mathlib.Core.Path.{◌≡◌, refl, sym, ap, ap₂, ◌∙◌}
 use native.Mathlib.Nat.{add-zero, le_of_suc-le-suc}
 use native.Mathlib.Omega.{arith}
@@ -14,8 +15,7 @@ use Rattle.settings_words.proofs.ReadBack.{flag_back, read_back}
 use Rattle.rules.specs.declared.entry.Entry.{Entry}
 use Rattle.rules.specs.declared.entry.Hold.TheVariants.{Unheld, Readers, Writer}
 use Rattle.rules.specs.declared.entry.Hold.{Hold}
-use Rattle.rules.specs.declared.entry.Row.TheVariants.{Free, Used}
-use Rattle.rules.specs.declared.entry.Row.{Row}
+use Rattle.rules.specs.Types.{Row}
 use Rattle.settings.specs.declared.Mode.TheVariants.{Alone, Lead, Standby}
 use Rattle.settings.specs.declared.Mode.{Mode}
 use Rattle.rules.specs.Allowed.{HoldAllowed, EntryAllowed, Sound, Distinct}
@@ -59,18 +59,18 @@ module _ (A B : List ℕ) (r : ℕ) (p : length A ≡ row_at r) where
       (ap flag_of (past A (entry_words e ++ B) (row_at r) 4 p) ∙ flag_back e.pinned)
       (ap hold_of (past A (entry_words e ++ B) (row_at r) 5 p) ∙ hold_back e.hold ok)
 
-  free_size : (entry_of (A ++ (row_words Free ++ B)) r).size ≡ 0
+  free_size : (entry_of (A ++ (row_words None ++ B)) r).size ≡ 0
   unfolding entry_of
-  free_size = past A (row_words Free ++ B) (row_at r) 1 p
+  free_size = past A (row_words None ++ B) (row_at r) 1 p
 
 -- the entry of a row, if it has one, is allowed
 abbrev pub RowAllowed : Row → Type 0
-RowAllowed Free = Unit
-RowAllowed (Used e) = EntryAllowed e
+RowAllowed None = Unit
+RowAllowed (Some e) = EntryAllowed e
 
 pub row_seam : (x : Row) (A B : List ℕ) (r : ℕ) → length A ≡ row_at r → RowAllowed x → row_of (entry_of (A ++ (row_words x ++ B)) r) ≡ x
-row_seam Free A B r p f = rw (eq-eqb _ 0 (free_size A B r p))
-row_seam (Used e) A B r p f =
+row_seam None A B r p f = rw (eq-eqb _ 0 (free_size A B r p))
+row_seam (Some e) A B r p f =
     rw (entry_seam A B r p e f.hold, ne_eqb e.size 0 (λ (q : e.size ≡ 0). let l = f.nonempty in omega arith))
 
 -- ---- all rows
@@ -122,20 +122,20 @@ cache_is p q r s t u v w x y z = λ i. record {
 }
 
 -- every entry is found at its address, where addresses are distinct
-pub rows_allowed : (rows : List Row) → Distinct rows → ((a : ℕ) (e : Entry) → get rows a ≡ some e → EntryAllowed e) → RowsAllowed rows
+pub rows_allowed : (rows : List Row) → Distinct rows → ((a : ℕ) (e : Entry) → get rows a ≡ Some e → EntryAllowed e) → RowsAllowed rows
 unfolding get
 rows_allowed [] d h = tt
-rows_allowed (Free ∷ rows) d h = (tt, rows_allowed rows d h)
-rows_allowed (Used x ∷ rows) d h = (h x.address x (rw (eq-eqb x.address x.address refl)), rows_allowed rows d.1 later)
+rows_allowed (None ∷ rows) d h = (tt, rows_allowed rows d h)
+rows_allowed (Some x ∷ rows) d h = (h x.address x (rw (eq-eqb x.address x.address refl)), rows_allowed rows d.1 later)
   where
-    later : (a : ℕ) (e : Entry) → get rows a ≡ some e → EntryAllowed e
+    later : (a : ℕ) (e : Entry) → get rows a ≡ Some e → EntryAllowed e
     later a e g =
         split (eqb x.address a)
-        (λ p. absurd (some-ne-none e (sym g ∙ ap (get rows) (sym (eqb-true x.address a p)) ∙ d.0)))
+        (λ p. absurd (none-some e (sym (sym g ∙ ap (get rows) (sym (eqb-true x.address a p)) ∙ d.0))))
         (λ p. h a e (simp p g))
 
 module _ (c : Cache) (rest : List ℕ) (few : length c.rows ≤ most_rows)
-    (entries : (a : ℕ) (e : Entry) → get c.rows a ≡ some e → EntryAllowed e) (sound : Sound c) (floats : FloatsFit c.settings) where
+    (entries : (a : ℕ) (e : Entry) → get c.rows a ≡ Some e → EntryAllowed e) (sound : Sound c) (floats : FloatsFit c.settings) where
   listed_short : length (map (row_number c.rows) c.recency) ≤ length c.rows
   listed_short = omega (arith, length-map c.recency (row_number c.rows), listed_most c sound)
 

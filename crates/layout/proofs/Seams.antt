@@ -1,4 +1,5 @@
 -- Where the parts of a table stand: its words are a head, rows, two runs and a rest, each of known length.
+use Rattle.std.specs.Prelude.{None, Some}
 use Prim.Native.Nat.{ℕ, ◌+◌, ◌*◌, ◌≤◌}
 use mathlib.Core.List.{List, [], ◌∷◌, ◌++◌, append_assoc}
 use mathlib.Core.Path.{◌≡◌, refl, ap, ap₂, ◌∙◌}
@@ -6,8 +7,7 @@ use native.Mathlib.Omega.{arith}
 use lib.ListN.{length, drop, get_or, length-append, length-replicate}
 use lib.Seq.{drop_at, get_or-append-add}
 use Rattle.settings_words.proofs.Flat.{words_length}
-use Rattle.rules.specs.declared.entry.Row.TheVariants.{Free, Used}
-use Rattle.rules.specs.declared.entry.Row.{Row}
+use Rattle.rules.specs.Types.{Row}
 use Rattle.rules.specs.Cache.{Cache}
 use Rattle.layout.specs.Layout.{header_words, width, recency_at, addresses_at, layout_words}
 use Rattle.layout.specs.Picture.{row_words, rows_words, run, head_words}
@@ -18,8 +18,8 @@ pub length_head : (c : Cache) → length (head_words c) ≡ header_words
 length_head c = let s = words_length c.settings in omega arith
 
 pub length_row : (x : Row) → length (row_words x) ≡ width
-length_row Free = refl
-length_row (Used e) = refl
+length_row None = refl
+length_row (Some e) = refl
 
 pub length_rows : (rows : List Row) → length (rows_words rows) ≡ length rows * width
 unfolding rows_words

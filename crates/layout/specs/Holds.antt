@@ -1,6 +1,5 @@
 -- What is known of a table within a request: its words are those of a steady cache.
-use Rattle.std.specs.Prelude.{ℕ, ◌≤◌, false, ◌≡◌, List, length}
-use Rattle.std.proofs.Math.Option.{some}
+use Rattle.std.specs.Prelude.{ℕ, ◌≤◌, false, ◌≡◌, List, length, Some}
 use Rattle.settings.specs.Validation.{first_bad}
 use Rattle.settings_words.specs.FloatsFit.{FloatsFit}
 use Rattle.rules.specs.declared.entry.Entry.{Entry}
@@ -15,7 +14,7 @@ use Rattle.layout.specs.Picture.{encode, addresses, cache_in, rest_in}
 pub record Steady (c : Cache) : Type 0 where
   pub some_rows : 1 ≤ length c.rows
   pub rows : length c.rows ≤ most_rows
-  pub entries : (a : ℕ) (e : Entry) → get c.rows a ≡ some e → EntryAllowed e
+  pub entries : (a : ℕ) (e : Entry) → get c.rows a ≡ Some e → EntryAllowed e
   pub sound : Sound c
   pub settings : first_bad c.settings false ≡ 0
   -- every f64 of a program fits the format

@@ -3,7 +3,7 @@ use Rattle.std.specs.Prelude.{ℕ, ◌*◌, List, [], ◌∷◌, ◌++◌, take,
 use Rattle.settings.specs.declared.Settings.{Settings}
 use Rattle.settings_words.specs.Words.{settings_words}
 use Rattle.words.specs.Runs.{removed, inserted}
-use Rattle.rules.specs.declared.entry.Row.{Row}
+use Rattle.rules.specs.Types.{Row}
 use Rattle.rules.specs.declared.order.Order.{Order}
 use Rattle.layout.specs.Layout.{width, row_at, settings_at}
 use Rattle.layout.specs.Picture.{row_words, order_words}

@@ -1,10 +1,9 @@
 -- The words of a cache, and the cache that words picture.
-use Rattle.std.specs.Prelude.{ℕ, zero, suc, ◌+◌, ◌*◌, ◌-◌, List, [], ◌∷◌, ◌++◌, map, eqb, length, get_or, drop, replicate, if◌then◌else◌}
+use Rattle.std.specs.Prelude.{ℕ, zero, suc, ◌+◌, ◌*◌, ◌-◌, List, [], ◌∷◌, ◌++◌, map, eqb, length, get_or, drop, replicate, if◌then◌else◌, None, Some}
 use Rattle.settings_words.specs.Words.{flag_word, flag_of, settings_words}
 use Rattle.settings_words.specs.Picture.{settings_of}
 use Rattle.rules.specs.declared.entry.Entry.{Entry}
-use Rattle.rules.specs.declared.entry.Row.{Row}
-use Rattle.rules.specs.declared.entry.Row.TheVariants.{Free, Used}
+use Rattle.rules.specs.Types.{Row}
 use Rattle.rules.specs.declared.order.Order.{Order}
 use Rattle.rules.specs.Addresses.{insert_rising}
 use Rattle.rules.specs.Cache.{Cache}
@@ -15,22 +14,22 @@ use Rattle.layout.specs.Layout.{ones, version, row_count_at, mode_at, threshold_
 -- The number of the row that has an address.
 unfoldable pub row_number : List Row → ℕ → ℕ
 row_number [] a = 0
-row_number (Free ∷ rows) a = suc (row_number rows a)
-row_number (Used e ∷ rows) a = if eqb e.address a then 0 else suc (row_number rows a)
+row_number (None ∷ rows) a = suc (row_number rows a)
+row_number (Some e ∷ rows) a = if eqb e.address a then 0 else suc (row_number rows a)
 
 -- The address of a row; 0 where it is free.
 abbrev pub address_of : Row → ℕ
-address_of Free = 0
-address_of (Used e) = e.address
+address_of None = 0
+address_of (Some e) = e.address
 
 abbrev pub address_at : List Row → ℕ → ℕ
-address_at rows r = address_of (get_or rows r Free)
+address_at rows r = address_of (get_or rows r None)
 
 -- All addresses, rising.
 unfoldable pub addresses : List Row → List ℕ
 addresses [] = []
-addresses (Free ∷ rows) = addresses rows
-addresses (Used e ∷ rows) = insert_rising e.address (addresses rows)
+addresses (None ∷ rows) = addresses rows
+addresses (Some e ∷ rows) = insert_rising e.address (addresses rows)
 
 -- ---- the words of a cache
 
@@ -39,8 +38,8 @@ entry_words e = e.address ∷ e.size ∷ flag_word e.dirty ∷ e.idle ∷ flag_w
 
 -- A free row is all zero; an entry's size is not.
 abbrev pub row_words : Row → List ℕ
-row_words Free = 0 ∷ 0 ∷ 0 ∷ 0 ∷ 0 ∷ 0 ∷ []
-row_words (Used e) = entry_words e
+row_words None = 0 ∷ 0 ∷ 0 ∷ 0 ∷ 0 ∷ 0 ∷ []
+row_words (Some e) = entry_words e
 
 unfoldable pub rows_words : List Row → List ℕ
 rows_words [] = []
@@ -80,7 +79,7 @@ entry_of ws r = record {
 }
 
 abbrev pub row_of : Entry → Row
-row_of e = if eqb e.size 0 then Free else Used e
+row_of e = if eqb e.size 0 then None else Some e
 
 -- n rows from row r on.
 unfoldable pub rows_of : ℕ → ℕ → List ℕ → List Row

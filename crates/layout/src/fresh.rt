@@ -23,8 +23,7 @@ pub fn fill_part(table: &mut [u64], at: usize, n: usize, v: u64)
     requires { at + n ≤ length table.old }
     ensures { table.new ≡ fill_part at n v table.old }
 {
-    let end = at + n;
-    words::fill(&mut table[at..end], v);
+    words::fill(&mut table[at..at + n], v);
 }
 
 // Writes a fresh cache over the words of a table; the words past the layout stay.
@@ -33,11 +32,10 @@ pub fn write_fresh(table: &mut [u64], rows: usize, mode: Mode, threshold: u64, s
     ensures table_after { table.new ≡ encode (fresh rows mode threshold s) (drop (layout_words rows) table.old) }
     ensures floats_fit { FloatsFit s }
 {
-    let mode = mode_word(mode);
     let head = [
         VERSION,
         rows as u64,
-        mode,
+        mode_word(mode),
         threshold,
         s.initial,
         0,

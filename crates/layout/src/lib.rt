@@ -15,6 +15,8 @@
 //     31 + 7 n     address run: the used rows by rising address, then all ones
 //     31 + 8 n     the end; the words from here on are never touched
 //
+// A row is named by its number, and a run ends with all ones: the words are lent by the host, and there is no heap.
+//
 // The functions read and write one part each. They ask only that the part lies in the table, and state every word.
 #![tactic(auto)]
 
@@ -30,7 +32,7 @@ pub mod word;
 pub const VERSION: u64 = 0x5350_4c44_5654_0003;
 
 // The word that names no row.
-pub const ONES: u64 = 18446744073709551615;
+pub use words::ONES;
 
 // Where each header word stands.
 pub const VERSION_AT: usize = 0;

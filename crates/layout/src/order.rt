@@ -10,9 +10,6 @@ pub fn order_put(orders: &mut [u64], n: usize, order: Order)
     requires { n * 3 + 3 ≤ length orders.old }
     ensures { orders.new ≡ put_order n order orders.old }
 {
-    let kind = order.kind;
-    let kind = kind_word(kind);
-    let own = [kind, order.address, order.size];
-    let at = n * 3;
-    words::copy_in(&mut orders[at..], &own);
+    let own = [kind_word(order.kind), order.address, order.size];
+    words::copy_in(&mut orders[n * 3..], &own);
 }

@@ -1,14 +1,21 @@
-// Where the two runs begin in a table with so many rows, and where the layout ends.
+// Where a row begins, where the two runs begin in a table with so many rows, and where the layout ends.
 ghost use Rattle.std.specs.Prelude.{◌≡◌, ◌≤◌};
-ghost use Rattle.layout.specs.Layout.{ones, recency_at, addresses_at, layout_words};
+ghost use Rattle.layout.specs.Layout.{ones, row_at, recency_at, addresses_at, layout_words};
 
 use crate::{HEADER, WIDTH};
+
+pub fn row_at(row: usize) -> usize
+    requires { row_at row ≤ ones }
+    ensures { result ≡ row_at row }
+{
+    HEADER + row * WIDTH
+}
 
 pub fn recency_at(rows: usize) -> usize
     requires { recency_at rows ≤ ones }
     ensures { result ≡ recency_at rows }
 {
-    HEADER + rows * WIDTH
+    row_at(rows)
 }
 
 pub fn addresses_at(rows: usize) -> usize

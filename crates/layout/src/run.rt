@@ -7,8 +7,7 @@ pub fn run_cut(table: &mut [u64], at: usize, n: usize, pos: usize)
     requires { (pos < n) × (at + n ≤ length table.old) }
     ensures { table.new ≡ run_cut at n pos table.old }
 {
-    let end = at + n;
-    words::remove_at(&mut table[at..end], pos);
+    words::remove_at(&mut table[at..at + n], pos);
 }
 
 // Puts v into the run of n words at `at`, whose last word falls out.
@@ -16,6 +15,5 @@ pub fn run_put(table: &mut [u64], at: usize, n: usize, pos: usize, v: u64)
     requires { (pos < n) × (at + n ≤ length table.old) }
     ensures { table.new ≡ run_put at n pos v table.old }
 {
-    let end = at + n;
-    words::insert_at(&mut table[at..end], pos, v);
+    words::insert_at(&mut table[at..at + n], pos, v);
 }

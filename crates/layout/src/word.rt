@@ -1,4 +1,7 @@
 // What one word says.
+//
+// A kind is a number here because a stored table holds it, or an order word, which C reads: specs/Layout.antt fixes each number. An impl of From for
+// a Hold, a Mode or a Kind would have to stand in crate `rules` or `settings`, so these are functions.
 ghost use Rattle.std.specs.Prelude.{◌≡◌};
 ghost use Rattle.layout.specs.Layout.{mode_word, mode_of, hold_word, hold_of, kind_word};
 
@@ -22,13 +25,11 @@ pub fn hold_word(h: Hold) -> u64
 pub fn hold_of(w: u64) -> Hold
     ensures { result ≡ hold_of w }
 {
-    if w == 0 {
-        return Hold::Unheld;
+    match w {
+        0 => Hold::Unheld,
+        WRITER => Hold::Writer,
+        _ => Hold::Readers(w),
     }
-    if w == WRITER {
-        return Hold::Writer;
-    }
-    Hold::Readers(w)
 }
 
 pub fn mode_word(m: Mode) -> u64
@@ -44,13 +45,11 @@ pub fn mode_word(m: Mode) -> u64
 pub fn mode_of(w: u64) -> Mode
     ensures { result ≡ mode_of w }
 {
-    if w == 0 {
-        return Mode::Alone;
+    match w {
+        0 => Mode::Alone,
+        1 => Mode::Lead,
+        _ => Mode::Standby,
     }
-    if w == 1 {
-        return Mode::Lead;
-    }
-    Mode::Standby
 }
 
 pub fn kind_word(k: Kind) -> u64

@@ -4,5 +4,5 @@
 mod line;
 mod number;
 
-pub use line::{Line, line_end, read_line};
+pub use line::{Insert, line_end, read_line};
 pub use number::{Number, number_at};

@@ -1,80 +1,44 @@
 // Lines.
-ghost use Rattle.std.specs.Prelude.{◌≡◌, ◌≤◌, ◌<◌, ◌+◌, length, drop};
-ghost use Rattle.lines.specs.Lines.{number_at, begins, size_then_end, address_then_size, line_of, length_of_line};
+ghost use Rattle.std.specs.Prelude.{◌≡◌, ◌≤◌, ◌+◌, eqb, length, drop};
+ghost use Rattle.std.specs.List.{position};
+ghost use Rattle.lines.specs.Lines.{line_of, length_of_line};
 
-use crate::number::{Number, number_at};
+use crate::number::number_at;
 
+// What a line asks for.
 #[derive(Clone, Copy)]
-pub enum Line {
-    Insert { address: u64, size: u64 },
-    Bad,
-}
-
-// Whether s begins with these bytes.
-fn begins(s: &[u8], start: &[u8]) -> bool
-    ensures { result ≡ begins s.now start.now }
-{
-    let mut i: usize = 0;
-    while i < start.len() {
-        if s.len() <= i {
-            return false;
-        }
-        if s[i] != start[i] {
-            return false;
-        }
-        i += 1;
-    }
-    true
-}
-
-// The size from a place on, after which the line ends.
-fn size_then_end(s: &[u8], address: u64, at: usize) -> Line
-    requires { at ≤ length s.now }
-    ensures { result ≡ size_then_end s.now address (number_at s.now at) }
-{
-    let size = number_at(s, at);
-    match size {
-        Number::Bad => Line::Bad,
-        Number::Value { value, next } => {
-            if next == s.len() {
-                return Line::Insert {
-                    address,
-                    size: value,
-                };
-            }
-            Line::Bad
-        }
-    }
-}
-
-// The address from a place on, a space and the size.
-fn address_then_size(s: &[u8], at: usize) -> Line
-    requires { at ≤ length s.now }
-    ensures { result ≡ address_then_size s.now (number_at s.now at) }
-{
-    let address = number_at(s, at);
-    match address {
-        Number::Bad => Line::Bad,
-        Number::Value { value, next } => {
-            if s.len() <= next {
-                return Line::Bad;
-            }
-            if s[next] != b' ' {
-                return Line::Bad;
-            }
-            size_then_end(s, value, next + 1)
-        }
-    }
+pub struct Insert {
+    pub address: u64,
+    pub size: u64,
 }
 
 // A line, without its newline.
-pub fn read_line(s: &[u8]) -> Line
+#[tactic(auto, unfolding(crate::specs::Lines::line_of))]
+pub fn read_line(s: &[u8]) -> Option<Insert>
     ensures { result ≡ line_of s.now }
 {
-    if !begins(s, b"insert ") {
-        return Line::Bad;
+    if !s.starts_with(b"insert ") {
+        return None;
     }
-    address_then_size(s, 7)
+    let address = number_at(s, 7)?;
+    if s.len() <= address.next || s[address.next] != b' ' {
+        return None;
+    }
+    let size = number_at(s, address.next + 1)?;
+    if size.next != s.len() {
+        return None;
+    }
+    Some(Insert {
+        address: address.value,
+        size: size.value,
+    })
+}
+
+// The place of the first newline.
+fn newline(s: &[u8]) -> Option<usize>
+    ensures { result ≡ position (λ b. eqb b 10) s.now }
+{
+    s.iter().position(|b| *b == b'\n')
 }
 
 // Where the line that starts at a place ends: at its newline, or at the text's end.
@@ -82,12 +46,8 @@ pub fn line_end(s: &[u8], at: usize) -> usize
     requires { at ≤ length s.now }
     ensures { result ≡ at + length_of_line (drop at s.now) }
 {
-    let mut i = at;
-    while i < s.len() {
-        if s[i] == b'\n' {
-            return i;
-        }
-        i += 1;
+    match newline(&s[at..]) {
+        Some(n) => at + n,
+        None => s.len(),
     }
-    i
 }

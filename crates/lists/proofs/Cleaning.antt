@@ -7,16 +7,16 @@ use native.Mathlib.Numerals.{add-one}
 use native.Mathlib.Omega.{arith}
 use lib.Dec.{eqb}
 use lib.ListN.{length, get_or, take}
-use lib.Seq.{take_all, take-suc}
+use lib.Seq.{take_all, take-suc, length-take-le}
+use Rattle.std.proofs.lemmas.List.{get_or-take}
 use Rattle.rules.proofs.Found.{get_amend, length_each}
 use Rattle.rules.proofs.Tests.{neither}
 use Rattle.rules.specs.Addresses.{elem}
 use Rattle.rules.specs.Cache.{Cache, with_rows, amend_at}
 use Rattle.rules.specs.Entries.{cleaned}
-use Rattle.rules.specs.Limits.{most_rows}
 use Rattle.rules.specs.Rows.{get, amend, amend_each}
 use Rattle.rules.specs.declared.entry.Entry.{Entry}
-use Rattle.rules.specs.declared.entry.Row.{Row}
+use Rattle.rules.specs.Types.{Row}
 use Rattle.layout.proofs.Held.{holds_cache, holds_rest}
 use Rattle.layout.proofs.Numbers.{elem_addresses, number_low}
 use Rattle.layout.proofs.Rows.{addresses_amend, number_amend}
@@ -93,11 +93,15 @@ module _ {c : Cache} {rest list ws : List ℕ} {i : ℕ} (k : Cleaning c rest li
 
 -- ---- by the rows noted
 
-module _ {c : Cache} {list named : List ℕ} {n : ℕ} (k : Noted c list named n) (few : length c.rows ≤ most_rows) {i : ℕ} (h : i < n) where
-  pub noted_place : i < most_rows
-  noted_place = omega (arith, k.count, k.rows.few)
+-- the rows of the addresses are the first of the row numbers
+pub noted_first : {c : Cache} {list named : List ℕ} {n : ℕ} → Noted c list named n → n ≤ length named → Noted c list (take n named) (length (take n named))
+noted_first {named = named} {n} k low = record {
+  count = length-take-le n named low ∙ k.count;
+  rows = record { good = k.rows.good; few = k.rows.few; each = λ i h. get_or-take n named i 0 (omega (arith, k.count)) ∙ k.rows.each i h };
+}
 
-  pub noted_low : get_or named i 0 < length c.rows
+module _ {c : Cache} {list named : List ℕ} {n i row : ℕ} (k : Noted c list named n) (h : i < n) (here : row ≡ get_or named i 0) where
+  pub noted_low : row < length c.rows
   noted_low =
       let r = named_row k.rows i (omega (arith, k.count)) in
       let l = number_low c.rows (get_or list i 0) r.here in
@@ -108,11 +112,11 @@ module _ {c : Cache} {list named : List ℕ} {n : ℕ} (k : Noted c list named n
     pub noted_rows : {m : ℕ} → m ≡ length c.rows → GoodRows ws m
     noted_rows e = taken_rows c (take i list) w.holds e
 
-    noted_row : RowOf (cache_in ws).rows (get_or list i 0) (get_or named i 0)
-    noted_row = taken_row c (take i list) w.holds (named_row k.rows i (omega (arith, k.count)))
+    noted_row : RowOf (cache_in ws).rows (get_or list i 0) row
+    noted_row = rw here (taken_row c (take i list) w.holds (named_row k.rows i (omega (arith, k.count))))
 
-    module _ {a : ℕ} (e : (b : ℕ) → RowOf (cache_in ws).rows b (get_or named i 0) → a ≡ b) where
-      pub noted_address : RowOf (cache_in ws).rows a (get_or named i 0)
+    module _ {a : ℕ} (e : (b : ℕ) → RowOf (cache_in ws).rows b row → a ≡ b) where
+      pub noted_address : RowOf (cache_in ws).rows a row
       noted_address = rw (e (get_or list i 0) noted_row) noted_row
 
       pub noted_on : {out : List ℕ} → Holds out (amend_at a cleaned (cache_in ws)) (rest_in ws) → Cleaning c rest list out (i + 1)

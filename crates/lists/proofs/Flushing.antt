@@ -1,11 +1,10 @@
 -- A flush walks the rising addresses. Those dirty are the rules' list, since both rise and have the same addresses; an address that
 -- is still to come was not cleaned, so it is dirty, and of the size, as at the start.
-use Rattle.std.specs.Prelude.{if◌then◌else◌}
+use Rattle.std.specs.Prelude.{if◌then◌else◌, Option, Some, option_map, None, unwrap_or}
 use Prim.Native.Nat.{ℕ, suc, ◌+◌, ◌≤◌, ◌<◌}
 use mathlib.Core.Bool.{Bool, true, false, ◌&&◌}
 use mathlib.Core.List.{List, [], ◌∷◌, ◌++◌}
 use mathlib.Core.Option
-use mathlib.Core.Option.{Option, none, some, map}
 use mathlib.Core.Path.{◌≡◌, refl, sym, ap, ap₂, subst, ◌∙◌}
 use native.Mathlib.Numerals.{add-one}
 use native.Mathlib.Omega.{arith}
@@ -23,7 +22,7 @@ use Rattle.rules.specs.Requests.{writes_of}
 use Rattle.rules.specs.Rising as rules-rising
 use Rattle.rules.specs.Rows.{get, passes, amend_each, dirty_at, dirty_rising, size_at}
 use Rattle.rules.specs.declared.entry.Entry.{Entry}
-use Rattle.rules.specs.declared.entry.Row.{Row}
+use Rattle.rules.specs.Types.{Row}
 use Rattle.rules.specs.declared.order.Kind.TheVariants.{Write}
 use Rattle.rules.specs.declared.order.Order.{Order}
 use Rattle.layout.proofs.Held.{holds_cache}
@@ -70,8 +69,8 @@ rising_of rows (a ∷ l) h =
     choose (λ (m : List ℕ). rules-rising.Rising m) (dirty_at rows a) (λ d. (above_of rows a l h.0, rising_of rows l h.1)) (λ d. rising_of rows l h.1)
 
 dirty_here : (o : Option Entry) → (passes (λ e. e.dirty) o && passes (λ e. true) o) ≡ passes (λ e. e.dirty) o
-dirty_here none = refl
-dirty_here (some e) = and_true e.dirty
+dirty_here None = refl
+dirty_here (Some e) = and_true e.dirty
 
 dirty_all : (rows : List Row) → Distinct rows → dirty_of rows (addresses rows) ≡ dirty_rising rows
 dirty_all rows d =
@@ -188,7 +187,7 @@ module _ {c : Cache} {rest lent ws words : List ℕ} {place given : ℕ} (s : So
         let e : dirty_of c.rows (take (place + 1) (addresses c.rows)) ≡ p ++ a ∷ [] = ap (dirty_of c.rows) front ∙ dirty_last c.rows (take place (addresses c.rows)) a (dirty_as true r t) in
         let here : get_or (addresses (cache_in ws).rows) place 0 ≡ a = ap (λ (l : List ℕ). get_or l place 0) flushing_same in
         let held : Holds out (amend_at a cleaned (cache_in ws)) (rest_in ws) = subst (λ (x : ℕ). Holds out (amend_at x cleaned (cache_in ws)) (rest_in ws)) here g.holds in
-        let size : size_at (cache_in ws).rows (get_or (addresses (cache_in ws).rows) place 0) ≡ size_at c.rows a = ap (λ (o : Option Entry). Option.get_or (map (λ x. x.size) o) 0) found_as in
+        let size : size_at (cache_in ws).rows (get_or (addresses (cache_in ws).rows) place 0) ≡ size_at c.rows a = ap (λ (o : Option Entry). unwrap_or (option_map (λ x. x.size) o) 0) found_as in
         let written : more ≡ put_order given (write_of c.rows a) words = g.orders ∙ ap₂ (λ (x s : ℕ). put_order given (record { kind = Write; address = x; size = s }) words) here size in
         let i : given ≡ 0 + length (writes_of c.rows p) = let m = length-map p (write_of c.rows) in let q = k.number in omega arith in
         record {

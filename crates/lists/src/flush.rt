@@ -16,7 +16,7 @@ ghost use Rattle.table.specs.Told.{Gives};
 ghost use Rattle.lists.specs.Flushed.{all_written};
 
 use crate::number::use_number;
-use reason_rules::{Change, Reason};
+use reason_rules::Reason;
 use reasons::runs::{Done, one_run};
 use table::header::{row_count, set_count};
 use table::lookup::{address_row, entry_of, key_at};
@@ -56,14 +56,12 @@ fn write_all(table: &mut [u64], orders: &mut [u64], rows: usize) -> usize
     ensures { Did (all_written (cache_in table.old)) (rest_in table.old) table.new 0 orders.old orders.new result }
 {
     let used = used_len(table, rows);
-    let mut place: usize = 0;
     let mut given: usize = 0;
-    while place < used {
+    for place in 0..used {
         if dirty_among(table, rows, place) {
             write_among(table, orders, rows, place, given);
             given += 1;
         }
-        place += 1;
     }
     given
 }
@@ -77,10 +75,9 @@ pub fn flush(table: &mut [u64], orders: &mut [u64]) -> Done
     let given = write_all(table, orders, rows);
     set_count(table, 0);
     use_number(table);
-    let runs = one_run(Reason::Flush, given);
     Done {
         given,
-        runs,
-        change: Change::Same,
+        runs: one_run(Reason::Flush, given),
+        change: None,
     }
 }

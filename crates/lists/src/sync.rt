@@ -9,7 +9,7 @@ ghost use Rattle.refusals.specs.Unrefused.{Unrefused};
 ghost use Rattle.room.specs.Did.{Did};
 
 use crate::number::use_number;
-use reason_rules::{Change, Reason};
+use reason_rules::Reason;
 use reasons::runs::{Done, one_run};
 use room::write_dirty;
 use table::header::{row_count, set_count};
@@ -25,10 +25,9 @@ pub fn sync(table: &mut [u64], orders: &mut [u64]) -> Done
     let given = write_dirty(table, orders, rows, 0, held, 0);
     set_count(table, 0);
     use_number(table);
-    let runs = one_run(Reason::Sync, given);
     Done {
         given,
-        runs,
-        change: Change::Same,
+        runs: one_run(Reason::Sync, given),
+        change: None,
     }
 }

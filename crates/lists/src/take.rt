@@ -14,7 +14,7 @@ ghost use Rattle.lists.specs.Taken.{taken};
 
 use layout::{HEADER, WIDTH};
 use message::number::next_after;
-use rules::answer::{Answer, Verdict};
+use rules::answer::Refusal;
 use table::changes::clean_row;
 use table::header::{next_number, row_count, set_count, set_next};
 use table_tests::take::take_noting;
@@ -29,49 +29,36 @@ fn row_address(table: &[u64], rows: usize, row: usize) -> u64
 }
 
 // The entries in the rows noted for the message's addresses are clean.
-fn clean_each(
-    table: &mut [u64],
-    rows: usize,
-    message: &[u8],
-    count: usize,
-    named: &[u16; MOST_ROWS],
-)
-    requires { GoodRows table.old rows × Noted (cache_in table.old) (addresses_in (read_message message.now)) named.now count }
+fn clean_each(table: &mut [u64], rows: usize, message: &[u8], named: &[u16])
+    requires { GoodRows table.old rows × Noted (cache_in table.old) (addresses_in (read_message message.now)) named.now (length named.now) }
     ensures { Holds table.new (taken (addresses_in (read_message message.now)) (cache_in table.old)) (rest_in table.old) }
 {
-    let mut i: usize = 0;
-    while i < count {
-        let row = named[i] as usize;
+    for noted in named {
+        let row = usize::from(*noted);
         let address = row_address(table, rows, row);
         clean_row(table, rows, row, address);
-        i += 1;
     }
 }
 
 // The work of a take whose rows are noted: their entries are clean, the byte count is 0, and the number is used up.
-fn take_list(table: &mut [u64], rows: usize, message: &[u8], count: usize, named: &[u16; MOST_ROWS])
-    requires { GoodRows table.old rows × Noted (cache_in table.old) (addresses_in (read_message message.now)) named.now count }
+fn take_list(table: &mut [u64], rows: usize, message: &[u8], named: &[u16])
+    requires { GoodRows table.old rows × Noted (cache_in table.old) (addresses_in (read_message message.now)) named.now (length named.now) }
     ensures { Holds table.new (with_next (next_after (cache_in table.old).next) (clean_each (addresses_in (read_message message.now)) (cache_in table.old))) (rest_in table.old) }
 {
-    clean_each(table, rows, message, count, named);
+    clean_each(table, rows, message, named);
     set_count(table, 0);
     let next = next_number(table);
     set_next(table, next_after(next));
 }
 
 // The tests, and the work in the rows that they noted. No order words are lent for it.
-pub fn take(table: &mut [u64], message: &[u8]) -> Answer
+pub fn take(table: &mut [u64], message: &[u8]) -> Result<u64, Refusal>
     requires { Good table.old }
     ensures { (lent : List ℕ) → Answered (step (cache_in table.old) (asking Take message.now (length lent))) (rest_in table.old) table.new lent lent result }
 {
     let rows = row_count(table);
     let mut named = [0u16; MOST_ROWS];
-    let tested = take_noting(table, rows, message, &mut named);
-    let verdict = tested.verdict;
-    if let Verdict::Refused(refusal) = verdict {
-        return Answer::Refused(refusal);
-    }
-    let count = tested.count;
-    take_list(table, rows, message, count, &named);
-    Answer::Accepted(0)
+    let count = take_noting(table, rows, message, &mut named)?;
+    take_list(table, rows, message, &named[..count]);
+    Ok(0)
 }

@@ -1,5 +1,5 @@
 -- One byte: what the rules say at each place, and what the code does there.
-use Rattle.std.specs.Prelude.{if◌then◌else◌}
+use Rattle.std.specs.Prelude.{if◌then◌else◌, Option, None}
 use Prim.Native.Nat.{ℕ, zero, suc, ◌+◌, ◌-◌, ◌<◌, ◌≤◌, ◌^◌}
 use mathlib.Core.Bool.{Bool, ◌||◌}
 use mathlib.Core.List.{List, [], ◌∷◌, ◌++◌}
@@ -9,10 +9,9 @@ use native.Mathlib.Nat.{eq-or-lt_of_le}
 use native.Mathlib.Numerals.{add-one}
 use native.Mathlib.Omega.{arith}
 use lib.Dec.{eqb, ltb}
-use lib.ListN.{length, length-append}
+use lib.ListN.{length-append}
 use borrow.Author.Tests.{lt-ltb, le-ltb, eq-eqb, ne_eqb}
 use Rattle.rules.proofs.Lists.{elem_append}
-use Rattle.rules.proofs.Messages.{at}
 use Rattle.rules.proofs.Tests.{or_false}
 use Rattle.rules.specs.Addresses.{elem}
 use Rattle.rules.specs.Limits.{all_ones}
@@ -21,7 +20,6 @@ use Rattle.rules.specs.Messages.{Reading, going, wrong, must, tag, number_byte, 
 use Rattle.message.specs.Feeding.{having, Keeps, Sound, expects, Feeds}
 use Rattle.message.specs.declared.feed.Reader.{Reader}
 use Rattle.message.specs.declared.feed.Fed.{Fed}
-use Rattle.message.specs.declared.feed.Fed.TheVariants.{Going, Wrong}
 
 -- ---- the rules at each place
 
@@ -81,35 +79,12 @@ module _ (b : ℕ) (r : messages.Reader) where
 -- ---- the code
 
 -- by another rule that does the same to this reader
-pub feeds_by : {rule : messages.Reader → Reading} (same : messages.Reader → Reading) {r : Reader} {x : Fed}
+pub feeds_by : {rule : messages.Reader → Reading} (same : messages.Reader → Reading) {r : Reader} {x : Option Fed}
     → ((list : List ℕ) → same (having list r) ≡ rule (having list r)) → Feeds rule r x → Feeds same r x
 feeds_by same e f = record { each = λ list k. record { reading = (f.each list k).reading ∙ sym (e list); keeps = (f.each list k).keeps } }
 
-pub feeds_wrong : {rule : messages.Reader → Reading} {r : Reader} → ((list : List ℕ) → rule (having list r) ≡ wrong) → Feeds rule r Wrong
+pub feeds_wrong : {rule : messages.Reader → Reading} {r : Reader} → ((list : List ℕ) → rule (having list r) ≡ wrong) → Feeds rule r None
 feeds_wrong e = record { each = λ list k. record { reading = sym (e list); keeps = tt } }
-
--- no address has come
-pub feeds_going : {rule : messages.Reader → Reading} {r s : Reader} → s.taken ≡ r.taken → s.ones ≡ r.ones
-    → ((list : List ℕ) → rule (having list r) ≡ going (having list s)) → Feeds rule r (Going s)
-feeds_going t o e = record { each = λ list k. record { reading = sym (e list); keeps = record { taken = t ∙ k.taken; ones = o ∙ k.ones } } }
-
-module _ (expected next b : ℕ) (r : Reader) where
-  pub expect_not : (b ≡ expected → ⊥) → Feeds (expects expected next b) r Wrong
-  expect_not n = feeds_wrong (λ list. rw (ne_eqb b expected n))
-
-  pub expect_is : b ≡ expected → (list : List ℕ) → expects expected next b (having list r) ≡ at next r.number r.count r.part list
-  expect_is e list = rw (eq-eqb b expected e)
-
--- the next place, in the rules' terms
-pub onward : (p n c q : ℕ) (list : List ℕ) → at (suc p) n c q list ≡ at (p + 1) n c q list
-onward p n c q list = ap (λ (x : ℕ). at x n c q list) (sym (add-one p))
-
-module _ (b : ℕ) (r : Reader) (list : List ℕ) (k : Keeps r list) where
-  pub tag_wanting : r.taken < r.count → tag b (having list r) ≡ expects 3 17 b (having list r)
-  tag_wanting h = rw (lt-ltb (length list) r.count (omega (arith, k.taken)))
-
-  pub tag_none : r.count ≤ r.taken → tag b (having list r) ≡ expects 9 27 b (having list r)
-  tag_none h = rw (le-ltb (length list) r.count (omega (arith, k.taken)))
 
 -- one more address
 pub more_kept : {r s : Reader} (a : ℕ) {list : List ℕ} → s.taken ≡ r.taken + 1 → s.ones ≡ (r.ones || eqb a all_ones) → Keeps r list → Keeps s (list ++ a ∷ [])

@@ -4,15 +4,16 @@ use mathlib.Core.List.{List, [], ◌∷◌, ◌++◌, append_assoc, append-nil}
 use mathlib.Core.Path.{◌≡◌, refl, sym, ap, ap₂, ◌∙◌}
 use native.Mathlib.Numerals.{add-one}
 use native.Mathlib.Omega.{arith}
-use lib.ListN.{length, get_or, set, take, drop, length-append}
-use lib.Seq.{take_at, drop_at, drop-drop, take-suc, take-length, sets-eq, length-take-le}
+use lib.ListN.{length, get_or, take, drop, length-append}
+use lib.Seq.{take_at, drop_at, drop-drop, take-suc, length-take-le}
 use borrow.Author.Tests.{lt-ltb, le-ltb}
+use Rattle.std.specs.Int.{w64, to_be_bytes}
 use Rattle.words.proofs.Shifts.{from_pos}
 use Rattle.rules.specs.declared.answer.Refusal.TheVariants.{OrderWords, Malformed}
 use Rattle.rules.specs.Limits.{most_listed}
 use Rattle.rules.specs.Messages.{bytes_of, address_fields, message_of}
 use Rattle.message.specs.Writes.{message_front, wrote, write_words, message_bytes}
-use Rattle.message.specs.declared.write.Written.TheVariants.{Bytes, Refused}
+use Rattle.std.specs.Prelude.{Ok, Err}
 
 -- ---- one field behind another
 
@@ -26,30 +27,26 @@ put_behind {xs} {ys} done l field p n e d q =
 
 -- ---- numbers
 
-pub two_put : (l : List ℕ) (v : ℕ) → 2 ≤ length l → set (set l 0 (v / 256 % 256)) 1 (v % 256) ≡ bytes_of 2 v ++ drop 2 l
-unfolding bytes_of
-two_put l v h = sets-eq (v / 256 % 256 ∷ v % 256 ∷ []) l 0 h
-
-pub tag_put : (l : List ℕ) (t s : ℕ) → 3 ≤ length l → set (set (set l 0 t) 1 0) 2 s ≡ t ∷ 0 ∷ s ∷ drop 3 l
-tag_put l t s h = sets-eq (t ∷ 0 ∷ s ∷ []) l 0 h
-
 pub bytes_length : (n v : ℕ) → length (bytes_of n v) ≡ n
 unfolding bytes_of
 bytes_length zero v = refl
 bytes_length (suc n) v = length-append (bytes_of n (v / 256)) (v % 256 ∷ []) ∙ ap (λ (k : ℕ). k + 1) (bytes_length n (v / 256)) ∙ add-one n
 
--- a number's high bytes and its low ones
-pub bytes_four : (v : ℕ) (l : List ℕ) → bytes_of 2 (v / 65536) ++ (bytes_of 2 v ++ l) ≡ bytes_of 4 v ++ l
+-- the bytes that the library gives, and the last two of them
+pub eight_bytes : (v : ℕ) → to_be_bytes w64 v ≡ bytes_of 8 v
 unfolding bytes_of
-bytes_four v l =
-    let e : v / 65536 ≡ v / 256 / 256 = omega arith in
-    rw e
+eight_bytes v =
+    let b : v / 65536 ≡ v / 256 / 256 = omega arith in
+    let c : v / 16777216 ≡ v / 65536 / 256 = omega arith in
+    let d : v / 4294967296 ≡ v / 16777216 / 256 = omega arith in
+    let e : v / 1099511627776 ≡ v / 4294967296 / 256 = omega arith in
+    let f : v / 281474976710656 ≡ v / 1099511627776 / 256 = omega arith in
+    let g : v / 72057594037927936 ≡ v / 281474976710656 / 256 = omega arith in
+    rw (g, f, e, d, c, b)
 
-pub bytes_eight : (v : ℕ) (l : List ℕ) → bytes_of 4 (v / 4294967296) ++ (bytes_of 4 v ++ l) ≡ bytes_of 8 v ++ l
+pub two_bytes : (v : ℕ) → drop 6 (to_be_bytes w64 v) ≡ bytes_of 2 v
 unfolding bytes_of
-bytes_eight v l =
-    let e : v / 4294967296 ≡ v / 256 / 256 / 256 / 256 = omega arith in
-    rw e
+two_bytes v = refl
 
 -- ---- addresses
 
@@ -74,11 +71,6 @@ fields_length (x ∷ list) =
 pub fields_start : (list l : List ℕ) → l ≡ address_fields (take 0 list) ++ drop (0 * 11) l
 unfolding address_fields
 fields_start list l = refl
-
-pub fields_end : (list l : List ℕ) (i : ℕ) → i ≤ length list → length list ≤ i → address_fields (take i list) ++ drop (i * 11) l ≡ address_fields list ++ drop (length list * 11) l
-fields_end list l i h k =
-    let e : i ≡ length list = omega arith in
-    rw (e, take-length list)
 
 -- one more address
 pub fields_next : (list l : List ℕ) (i : ℕ) {xs ys : List ℕ} → i < length list → xs ≡ address_fields (take i list) ++ drop (i * 11) l
@@ -115,15 +107,15 @@ message_is number list rest =
     ∙ sym (append_assoc (bytes_of 8 number) (2 ∷ 0 ∷ 2 ∷ (bytes_of 2 (length list) ++ (address_fields list ++ r))) rest))
 
 module _ (bytes : List ℕ) (number : ℕ) (list : List ℕ) where
-  pub few_bytes : length bytes < message_bytes (length list) → wrote (Refused OrderWords) bytes ≡ write_words bytes number list
+  pub few_bytes : length bytes < message_bytes (length list) → wrote (Err OrderWords) bytes ≡ write_words bytes number list
   few_bytes h = rw (lt-ltb (length bytes) (message_bytes (length list)) h)
 
   module _ (h : message_bytes (length list) ≤ length bytes) where
-    pub long_list : most_listed < length list → wrote (Refused Malformed) bytes ≡ write_words bytes number list
+    pub long_list : most_listed < length list → wrote (Err Malformed) bytes ≡ write_words bytes number list
     long_list m = rw (le-ltb (length bytes) (message_bytes (length list)) h, lt-ltb most_listed (length list) m)
 
     pub is_written_byte : length list ≤ most_listed → {left : List ℕ} → left ≡ message_of number list ++ drop (message_bytes (length list)) bytes
-        → wrote (Bytes (message_bytes (length list))) left ≡ write_words bytes number list
+        → wrote (Ok (message_bytes (length list))) left ≡ write_words bytes number list
     is_written_byte m e = rw (le-ltb (length bytes) (message_bytes (length list)) h, le-ltb most_listed (length list) m, e)
 
   module _ {xs ys : List ℕ} (e : xs ≡ message_front number (length list) ++ drop 16 bytes)

@@ -1,13 +1,13 @@
 -- A message read whole: byte after byte, or an address field at a time.
 use Prim.Native.Nat.{ℕ, zero, suc, ◌+◌, ◌*◌, ◌-◌, ◌<◌, ◌≤◌}
-use mathlib.Core.Bool.{Bool, true, ◌||◌}
+use mathlib.Core.Bool.{true, ◌||◌}
 use mathlib.Core.List.{List, [], ◌∷◌, ◌++◌}
 use mathlib.Core.Path.{◌≡◌, refl, sym, ap, ap₂, subst, ◌∙◌}
-use native.Mathlib.Nat.{add_assoc, add-zero}
+use native.Mathlib.Nat.{add-zero}
 use native.Mathlib.Numerals.{add-one}
 use native.Mathlib.Omega.{arith}
 use lib.Dec.{eqb}
-use lib.ListN.{length, get_or, set, take, drop, length-append, length-set}
+use lib.ListN.{length, get_or, set, take, drop, length-append, length-set, take-append-drop}
 use lib.Seq.{take-suc, take-add, take-length, take-set-le, get_or-set_same, drop-cons}
 use borrow.Author.Tests.{eqb-true}
 use Rattle.rules.proofs.Messages.{at, feed_append, stays_wrong, tag_three}
@@ -17,14 +17,21 @@ use Rattle.rules.specs.Addresses.{elem}
 use Rattle.rules.specs.Limits.{all_ones, last_number, most_rows}
 use Rattle.rules.specs.Messages as messages
 use Rattle.rules.specs.Messages.{Reading, going, wrong, fresh_reader, feed, feed_on, feed_all, power256, Message, message_in, read_message}
-use Rattle.message.specs.Feeding.{having, Sound, Feeds}
-use Rattle.message.specs.Reads.{after, fresh_code, Kept, Reads, Past, address_head, number_at, read_as, ended_as, KeptOf}
+use Rattle.std.specs.Prelude.{Option, Some, None, Result, Err}
+use Rattle.std.specs.Int.{w64, from_be_bytes}
+use Rattle.message.specs.Feeding.{having, Sound, with_address, Feeds}
+use Rattle.message.specs.Reads.{after, fresh_code, Kept, Reads, address_head, number_at, read_as, ended_as, KeptOf}
 use Rattle.message.specs.declared.feed.Reader.{Reader}
-use Rattle.message.specs.declared.feed.Fed.TheVariants.{Going, Address, Wrong}
-use Rattle.message.specs.declared.read.Behind.{Behind}
-use Rattle.message.specs.declared.read.Read.{Read}
-use Rattle.message.specs.declared.read.Read.TheVariants.{Malformed}
+use Rattle.message.specs.declared.feed.Fed.{Fed}
+use Rattle.message.specs.declared.read.NumberedList.{NumberedList}
+use Rattle.message.specs.declared.read.BadMessage.{BadMessage}
+use Rattle.message.specs.declared.read.BadMessage.TheVariants.{Malformed}
 use Rattle.message.proofs.Bytewise.{more_kept}
+
+-- what is no `Some` is `None`
+pub none_left : {A : Type 0} (o : Option A) → ((x : A) → o ≡ Some x → ⊥) → o ≡ None
+none_left None f = refl
+none_left (Some x) f = absurd (f x refl)
 
 -- ---- the words for addresses
 
@@ -46,11 +53,23 @@ kept_on list words a n e k = record {
 -- ---- the first bytes
 
 module _ (bytes : List ℕ) where
-  pub after_next : (i : ℕ) → i < length bytes → after (i + 1) bytes ≡ feed_on (get_or bytes i 0) (after i bytes)
+  feed_next : (x : Reading) (i : ℕ) → i < length bytes → feed_all (take (i + 1) bytes) x ≡ feed_on (get_or bytes i 0) (feed_all (take i bytes) x)
   unfolding feed_all
-  after_next i h =
-      ap (λ (l : List ℕ). feed_all l (going fresh_reader)) (ap (λ (n : ℕ). take n bytes) (add-one i) ∙ take-suc bytes i 0 h)
-      ∙ feed_append (take i bytes) (get_or bytes i 0 ∷ []) (going fresh_reader)
+  feed_next x i h =
+      ap (λ (l : List ℕ). feed_all l x) (ap (λ (n : ℕ). take n bytes) (add-one i) ∙ take-suc bytes i 0 h)
+      ∙ feed_append (take i bytes) (get_or bytes i 0 ∷ []) x
+
+  -- one byte more of those that a slice has
+  pub reads_on : (x : Reading) (i : ℕ) {r : Reader} {words : List ℕ} → i < length bytes → Reads (feed_on (get_or bytes i 0) (feed_all (take i bytes) x)) r words
+      → Reads (feed_all (take (i + 1) bytes) x) r words
+  reads_on x i {r} {words} h k = subst (λ (y : Reading). Reads y r words) (sym (feed_next x i h)) k
+
+  pub wrong_on : (x : Reading) (i : ℕ) → i < length bytes → feed_on (get_or bytes i 0) (feed_all (take i bytes) x) ≡ wrong → feed_all bytes x ≡ wrong
+  wrong_on x i h w =
+      ap (λ (l : List ℕ). feed_all l x) (sym (take-append-drop (i + 1) bytes))
+      ∙ feed_append (take (i + 1) bytes) (drop (i + 1) bytes) x
+      ∙ ap (feed_all (drop (i + 1) bytes)) (feed_next x i h ∙ w)
+      ∙ stays_wrong (drop (i + 1) bytes)
 
   after_add : (i n : ℕ) → after (i + n) bytes ≡ feed_all (take n (drop i bytes)) (after i bytes)
   after_add i n =
@@ -62,18 +81,25 @@ module _ (bytes : List ℕ) where
       let e : i + (to - i) ≡ to = omega arith in
       ap (λ (n : ℕ). after n bytes) (sym e) ∙ after_add i (to - i) ∙ ap (feed_all (take (to - i) (drop i bytes))) w ∙ stays_wrong (take (to - i) (drop i bytes))
 
+  -- the bytes from a place on
+  pub rest_fed : (i : ℕ) → i ≤ length bytes → feed_all (take (length bytes - i) (drop i bytes)) (after i bytes) ≡ after (length bytes) bytes
+  rest_fed i h =
+      let e : i + (length bytes - i) ≡ length bytes = omega arith in
+      sym (after_add i (length bytes - i)) ∙ ap (λ (n : ℕ). after n bytes) e
+
   after_all : after (length bytes) bytes ≡ feed_all bytes (going fresh_reader)
   after_all = ap (λ (l : List ℕ). feed_all l (going fresh_reader)) (take-length bytes)
 
-  pub reads_start : (words : List ℕ) → length words ≡ most_rows → Reads (after 0 bytes) fresh_code words
-  unfolding feed_all elem
-  reads_start words l = record {
-    list = [];
-    reading = refl;
-    keeps = record { taken = refl; ones = refl };
-    within = fresh_within;
-    kept = record { long = l; all = λ h. refl };
-  }
+-- before the first byte
+pub reads_start : (words : List ℕ) → length words ≡ most_rows → Reads (going fresh_reader) fresh_code words
+unfolding elem
+reads_start words l = record {
+  list = [];
+  reading = refl;
+  keeps = record { taken = refl; ones = refl };
+  within = fresh_within;
+  kept = record { long = l; all = λ h. refl };
+}
 
 pub reads_sound : {x : Reading} {r : Reader} {words : List ℕ} → Reads x r words → Sound r
 reads_sound k = record { list = k.list; keeps = k.keeps; within = k.within }
@@ -87,23 +113,25 @@ module _ {b : ℕ} (h : b < 256) {x : Reading} {r : Reader} {words : List ℕ} (
   within_next : {y : messages.Reader} → feed b (having k.list r) ≡ going y → messages.Within y
   within_next e = subst WithinAt e (fed b h (having k.list r) k.within)
 
-  pub next_going : {s : Reader} → Feeds (feed b) r (Going s) → Reads (feed_on b x) s words
-  next_going f =
-      let g = f.each k.list k.keeps in
-      record { list = k.list; reading = fed_next ∙ sym g.reading; keeps = g.keeps; within = within_next (sym g.reading); kept = k.kept }
+  module _ {s : Fed} (f : Feeds (feed b) r (Some s)) where
+    next_fed : {left : List ℕ} → Kept (with_address k.list s.address) left → Reads (feed_on b x) s.reader left
+    next_fed t =
+        let g = f.each k.list k.keeps in
+        record {
+          list = with_address k.list s.address;
+          reading = fed_next ∙ sym g.reading;
+          keeps = g.keeps;
+          within = within_next (sym g.reading);
+          kept = t;
+        }
 
-  pub next_address : {s : Reader} {a : ℕ} → Feeds (feed b) r (Address s a) → Reads (feed_on b x) s (set words r.taken a)
-  next_address {s} {a} f =
-      let g = f.each k.list k.keeps in
-      record {
-        list = k.list ++ a ∷ [];
-        reading = fed_next ∙ sym g.reading;
-        keeps = g.keeps;
-        within = within_next (sym g.reading);
-        kept = kept_on k.list words a r.taken k.keeps.taken k.kept;
-      }
+    pub next_going : s.address ≡ None → Reads (feed_on b x) s.reader words
+    next_going e = next_fed (rw e k.kept)
 
-  pub next_wrong : Feeds (feed b) r Wrong → feed_on b x ≡ wrong
+    pub next_address : {a : ℕ} → s.address ≡ Some a → Reads (feed_on b x) s.reader (set words r.taken a)
+    next_address {a} e = next_fed (rw e (kept_on k.list words a r.taken k.keeps.taken k.kept))
+
+  pub next_wrong : Feeds (feed b) r None → feed_on b x ≡ wrong
   next_wrong f = fed_next ∙ sym (f.each k.list k.keeps).reading
 
 -- ---- an address field
@@ -123,29 +151,18 @@ run_is l i k (suc n) h =
 
 -- eight bytes as one number
 eight : (a b c d e f g h : ℕ) → (((((((0 * 256 + a) * 256 + b) * 256 + c) * 256 + d) * 256 + e) * 256 + f) * 256 + g) * 256 + h
-    ≡ (((a * 256 + b) * 256 + c) * 256 + d) * 4294967296 + (((e * 256 + f) * 256 + g) * 256 + h)
+    ≡ from_be_bytes w64 (a ∷ b ∷ c ∷ d ∷ e ∷ f ∷ g ∷ h ∷ [])
 eight a b c d e f g h = omega arith
 
 field_read : (n m : ℕ) (l : List ℕ) (a b c d e f g h : ℕ) → length l < m
     → feed_all (3 ∷ 0 ∷ 8 ∷ a ∷ b ∷ c ∷ d ∷ e ∷ f ∷ g ∷ h ∷ []) (at 16 n m 0 l)
-    ≡ at 16 n m 0 (l ++ ((((a * 256 + b) * 256 + c) * 256 + d) * 4294967296 + (((e * 256 + f) * 256 + g) * 256 + h)) ∷ [])
+    ≡ at 16 n m 0 (l ++ from_be_bytes w64 (a ∷ b ∷ c ∷ d ∷ e ∷ f ∷ g ∷ h ∷ []) ∷ [])
 unfolding feed_all feed
 field_read n m l a b c d e f g h i =
     tag_three n m l (a ∷ b ∷ c ∷ d ∷ e ∷ f ∷ g ∷ h ∷ []) i
     ∙ ap (λ (v : ℕ). at 16 n m 0 (l ++ v ∷ [])) (eight a b c d e f g h)
 
 module _ (bytes : List ℕ) (i : ℕ) where
-  place : (j k : ℕ) → get_or bytes (i + j + k) 0 ≡ get_or bytes (i + (j + k)) 0
-  place j k = ap (λ (n : ℕ). get_or bytes n 0) (add_assoc i j k)
-
-  -- the number past tag and length
-  number_placed : number_at bytes (i + 3)
-      ≡ (((get_or bytes (i + 3) 0 * 256 + get_or bytes (i + 4) 0) * 256 + get_or bytes (i + 5) 0) * 256 + get_or bytes (i + 6) 0) * 4294967296
-      + (((get_or bytes (i + 7) 0 * 256 + get_or bytes (i + 8) 0) * 256 + get_or bytes (i + 9) 0) * 256 + get_or bytes (i + 10) 0)
-  number_placed =
-      let u : i + 3 + 4 ≡ i + 7 = omega arith in
-      rw (u, place 3 1, place 3 2, place 3 3, place 7 1, place 7 2, place 7 3)
-
   module _ {r : Reader} {words : List ℕ} (k : Reads (after i bytes) r words) (p : r.place ≡ 16) (w : r.taken < r.count)
       (fit : i + 11 ≤ length bytes) (head : address_head bytes i ≡ true) {v : ℕ} (e : v ≡ number_at bytes (i + 3)) (small : v ≤ last_number) where
     no_part : r.part ≡ 0
@@ -173,12 +190,13 @@ module _ (bytes : List ℕ) (i : ℕ) where
         after_add bytes i 11
         ∙ ap₂ feed_all eleven there
         ∙ field_read r.number r.count k.list _ _ _ _ _ _ _ _ (omega (arith, k.keeps.taken))
-        ∙ ap (λ (x : ℕ). at 16 r.number r.count 0 (k.list ++ x ∷ [])) (sym (e ∙ number_placed))
+        ∙ ap (λ (x : ℕ). at 16 r.number r.count 0 (k.list ++ x ∷ [])) (sym (e ∙ ap (from_be_bytes w64) (run_is bytes i 3 8 (omega arith))))
 
-    pub reads_field : {s : Reader} → s ≡ record { place = r.place; number = r.number; count = r.count; part = r.part; taken = r.taken + 1; ones = r.ones || eqb v all_ones }
-        → Reads (after (i + 11) bytes) s (set words r.taken v)
-    reads_field {s} q =
-        rw q
+    pub reads_field : (n : ℕ) → r.taken ≡ n → {s : Reader}
+        → s ≡ record { place = r.place; number = r.number; count = r.count; part = r.part; taken = n + 1; ones = r.ones || eqb v all_ones }
+        → Reads (after (i + 11) bytes) s (set words n v)
+    reads_field n t {s} q =
+        rw (q, ← t)
         (record {
           list = k.list ++ v ∷ [];
           reading = field_on ∙ sym (ap₂ (λ (q m : ℕ). at q r.number r.count m (k.list ++ v ∷ [])) p no_part);
@@ -197,13 +215,13 @@ module _ (bytes : List ℕ) (i : ℕ) where
 -- ---- when no byte is left
 
 module _ (bytes words : List ℕ) where
-  pub whole_wrong : after (length bytes) bytes ≡ wrong → (Malformed ≡ read_as (read_message bytes)) × KeptOf (read_message bytes) words
+  pub whole_wrong : after (length bytes) bytes ≡ wrong → (Err Malformed ≡ read_as (read_message bytes)) × KeptOf (read_message bytes) words
   unfolding read_message
   whole_wrong w =
       let e : read_message bytes ≡ messages.malformed = ap message_in (sym (after_all bytes) ∙ w) in
       rw e (refl, tt)
 
-  pub whole_read : {r : Reader} {x : Read} → Reads (after (length bytes) bytes) r words → x ≡ ended_as r
+  pub whole_read : {r : Reader} {x : Result NumberedList BadMessage} → Reads (after (length bytes) bytes) r words → x ≡ ended_as r
       → (x ≡ read_as (read_message bytes)) × KeptOf (read_message bytes) words
   unfolding read_message
   whole_read {r} {x} k e =
@@ -211,18 +229,3 @@ module _ (bytes words : List ℕ) where
       split (eqb r.place 29)
       (λ p. rw (m, p) (e ∙ rw (p, k.keeps.taken, k.keeps.ones), k.kept))
       (λ p. rw (m, p) (e ∙ rw p, tt))
-
--- ---- loops
-
-module _ (bytes : List ℕ) (i : ℕ) where
-  pub wrong_on : (to : ℕ) → i < to → to ≤ length bytes → feed_on (get_or bytes i 0) (after i bytes) ≡ wrong → after to bytes ≡ wrong
-  wrong_on to h l w = after_wrong bytes (i + 1) to (omega arith) (after_next bytes i (omega arith) ∙ w)
-
-module _ (bytes : List ℕ) (i : ℕ) {r : Reader} {words : List ℕ} where
-  pub reads_on : i < length bytes → Reads (feed_on (get_or bytes i 0) (after i bytes)) r words → Reads (after (i + 1) bytes) r words
-  reads_on h k = subst (λ (x : Reading). Reads x r words) (sym (after_next bytes i h)) k
-
-  pub reads_past : {x : Behind} {taken : ℕ} {ones : Bool} → Past r taken ones i x → i ≤ length bytes
-      → Reads (after i bytes) (record { place = r.place; number = r.number; count = r.count; part = r.part; taken = taken; ones = ones }) words
-      → (x.at ≤ length bytes) × Reads (after x.at bytes) x.reader words
-  reads_past p h k = rw (p.place, p.reader) (h, k)

@@ -1,12 +1,11 @@
 -- One byte of a message: the reader of the code and that of the rules.
-use Rattle.std.specs.Prelude.{ℕ, List, [], ◌∷◌, ◌++◌, ◌≡◌, eqb, length, if◌then◌else◌}
+use Rattle.std.specs.Prelude.{ℕ, List, [], ◌∷◌, ◌++◌, ◌≡◌, eqb, length, if◌then◌else◌, Option, Some, None}
 use Rattle.rules.specs.Addresses.{elem}
 use Rattle.rules.specs.Limits.{all_ones}
 use Rattle.rules.specs.Messages as messages
 use Rattle.rules.specs.Messages.{Reading, going, wrong, move_to, Within}
 use Rattle.message.specs.declared.feed.Reader.{Reader}
 use Rattle.message.specs.declared.feed.Fed.{Fed}
-use Rattle.message.specs.declared.feed.Fed.TheVariants.{Going, Address, Wrong}
 
 -- The rules' reader: the code's, with the addresses that have come.
 abbrev pub having : List ℕ → Reader → messages.Reader
@@ -27,21 +26,24 @@ pub record Sound (r : Reader) : Type 0 where
 abbrev pub expects : ℕ → ℕ → ℕ → messages.Reader → Reading
 expects expected next b r = if eqb b expected then going (move_to next r) else wrong
 
+-- The addresses that have come, with the one that came now.
+abbrev pub with_address : List ℕ → Option ℕ → List ℕ
+with_address list None = list
+with_address list (Some a) = list ++ a ∷ []
+
 -- What a byte leads to, with the addresses that had come before it.
-abbrev pub fed_to : Fed → List ℕ → Reading
-fed_to (Going r) list = going (having list r)
-fed_to (Address r a) list = going (having (list ++ a ∷ []) r)
-fed_to Wrong list = wrong
+abbrev pub fed_to : Option Fed → List ℕ → Reading
+fed_to (Some x) list = going (having (with_address list x.address) x.reader)
+fed_to None list = wrong
 
-abbrev pub KeepsTo : Fed → List ℕ → Type 0
-KeepsTo (Going r) list = Keeps r list
-KeepsTo (Address r a) list = Keeps r (list ++ a ∷ [])
-KeepsTo Wrong list = Unit
+abbrev pub KeepsTo : Option Fed → List ℕ → Type 0
+KeepsTo (Some x) list = Keeps x.reader (with_address list x.address)
+KeepsTo None list = Unit
 
-pub record FedIs (x : Fed) (list : List ℕ) (y : Reading) : Type 0 where
+pub record FedIs (x : Option Fed) (list : List ℕ) (y : Reading) : Type 0 where
   pub reading : fed_to x list ≡ y
   pub keeps : KeepsTo x list
 
 -- The byte does to the reader what the rules say.
-pub record Feeds (rule : messages.Reader → Reading) (r : Reader) (x : Fed) : Type 0 where
+pub record Feeds (rule : messages.Reader → Reading) (r : Reader) (x : Option Fed) : Type 0 where
   pub each : (list : List ℕ) → Keeps r list → FedIs x list (rule (having list r))

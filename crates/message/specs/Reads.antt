@@ -1,15 +1,14 @@
 -- A message, read whole: what its first bytes lead to, and what the code has then.
-use Rattle.std.specs.Prelude.{ℕ, ◌+◌, ◌*◌, ◌-◌, ◌≤◌, ◌<◌, Bool, false, ◌&&◌, List, ◌≡◌, eqb, length, get_or, take, if◌then◌else◌}
+use Rattle.std.specs.Prelude.{ℕ, ◌+◌, ◌*◌, ◌-◌, ◌≤◌, ◌<◌, Bool, false, ◌&&◌, List, ◌≡◌, eqb, length, get_or, take, drop, if◌then◌else◌, Option, Some, None, Result, Ok, Err}
+use Rattle.std.specs.Int.{w64, from_be_bytes}
 use Rattle.rules.specs.Addresses.{elem}
 use Rattle.rules.specs.Limits.{all_ones, most_rows}
 use Rattle.rules.specs.Messages.{Reading, going, wrong, fresh_reader, feed_on, feed_all, Within, Message, right, early, malformed}
 use Rattle.message.specs.Feeding.{having, Keeps}
 use Rattle.message.specs.declared.feed.Reader.{Reader}
-use Rattle.message.specs.declared.read.Reading.TheVariants as code
-use Rattle.message.specs.declared.read.Reading as declared
-use Rattle.message.specs.declared.read.Read.{Read}
-use Rattle.message.specs.declared.read.Read.TheVariants.{Right, Cut, Malformed}
-use Rattle.message.specs.declared.read.Behind.{Behind}
+use Rattle.message.specs.declared.read.NumberedList.{NumberedList}
+use Rattle.message.specs.declared.read.BadMessage.{BadMessage}
+use Rattle.message.specs.declared.read.BadMessage.TheVariants.{Cut, Malformed}
 
 -- What the first i bytes lead to.
 abbrev pub after : ℕ → List ℕ → Reading
@@ -32,24 +31,30 @@ pub record Reads (x : Reading) (r : Reader) (words : List ℕ) : Type 0 where
   pub kept : Kept list words
 
 -- The same, or the bytes are wrong.
-abbrev pub ReadsTo : Reading → declared.Reading → List ℕ → Type 0
-ReadsTo x (code.Going r) words = Reads x r words
-ReadsTo x code.Wrong words = x ≡ wrong
+abbrev pub ReadsTo : Reading → Option Reader → List ℕ → Type 0
+ReadsTo x (Some r) words = Reads x r words
+ReadsTo x None words = x ≡ wrong
 
 -- One byte more.
-pub record FeedsOn (b : ℕ) (r : Reader) (words : List ℕ) (y : declared.Reading) (left : List ℕ) : Type 0 where
+pub record FeedsOn (b : ℕ) (r : Reader) (words : List ℕ) (y : Option Reader) (left : List ℕ) : Type 0 where
   pub each : (x : Reading) → Reads x r words → ReadsTo (feed_on b x) y left
+
+-- Some bytes lead to the reader and the words.
+pub record Readable (r : Reader) (words : List ℕ) : Type 0 where
+  pub reading : Reading
+  pub reads : Reads reading r words
+
+-- Bytes, one after the other.
+pub record FeedsAll (bytes : List ℕ) (r : Reader) (words : List ℕ) (y : Option Reader) (left : List ℕ) : Type 0 where
+  pub each : (x : Reading) → Reads x r words → ReadsTo (feed_all bytes x) y left
 
 -- Tag and length of an address.
 abbrev pub address_head : List ℕ → ℕ → Bool
 address_head bytes at = eqb (get_or bytes at 0) 3 && (eqb (get_or bytes (at + 1) 0) 0 && eqb (get_or bytes (at + 2) 0) 8)
 
--- The number in four bytes and in eight, high byte first.
-abbrev pub four_at : List ℕ → ℕ → ℕ
-four_at bytes at = ((get_or bytes at 0 * 256 + get_or bytes (at + 1) 0) * 256 + get_or bytes (at + 2) 0) * 256 + get_or bytes (at + 3) 0
-
+-- The number in eight bytes, high byte first.
 abbrev pub number_at : List ℕ → ℕ → ℕ
-number_at bytes at = four_at bytes at * 4294967296 + four_at bytes (at + 4)
+number_at bytes at = from_be_bytes w64 (take 8 (drop at bytes))
 
 -- Behind whole address fields in so many bytes there may be so many addresses: no more than the count, and a word for each.
 pub record FieldsEnd (r : Reader) (left n : ℕ) : Type 0 where
@@ -59,16 +64,14 @@ pub record FieldsEnd (r : Reader) (left n : ℕ) : Type 0 where
   pub wanting : r.taken < n → n ≤ r.count
   pub words : r.taken < n → n ≤ most_rows
 
--- The reader with so many addresses, at a place.
-pub record Past (r : Reader) (taken : ℕ) (ones : Bool) (at : ℕ) (x : Behind) : Type 0 where
-  pub place : x.at ≡ at
-  pub reader : x.reader ≡ record { place = r.place; number = r.number; count = r.count; part = r.part; taken = taken; ones = ones }
+abbrev pub numbered : ℕ → ℕ → Bool → NumberedList
+numbered number count ones = record { number = number; count = count; ones = ones }
 
 -- What a message is, with the list's length in place of the list.
-abbrev pub read_as : Message → Read
-read_as (right n list) = Right n (length list) (elem all_ones list)
-read_as early = Cut
-read_as malformed = Malformed
+abbrev pub read_as : Message → Result NumberedList BadMessage
+read_as (right n list) = Ok (numbered n (length list) (elem all_ones list))
+read_as early = Err Cut
+read_as malformed = Err Malformed
 
 -- The words have a right message's addresses.
 abbrev pub KeptOf : Message → List ℕ → Type 0
@@ -77,5 +80,5 @@ KeptOf early words = Unit
 KeptOf malformed words = Unit
 
 -- What a message is, of a reader when no byte is left.
-abbrev pub ended_as : Reader → Read
-ended_as r = if eqb r.place 29 then Right r.number r.taken r.ones else Cut
+abbrev pub ended_as : Reader → Result NumberedList BadMessage
+ended_as r = if eqb r.place 29 then Ok (numbered r.number r.taken r.ones) else Err Cut

@@ -1,5 +1,5 @@
 // One byte of a message.
-ghost use Rattle.std.specs.Prelude.{◌≡◌, ◌≤◌, ◌<◌, ◌^◌, eqb, if◌then◌else◌};
+ghost use Rattle.std.specs.Prelude.{◌≡◌, ◌<◌, ◌^◌, eqb, if◌then◌else◌};
 ghost use Rattle.rules.specs.Messages as messages;
 ghost use Rattle.message.specs.Feeding.{Sound, expects, Feeds};
 
@@ -8,6 +8,7 @@ ghost use Rattle.message.specs.Feeding.{Sound, expects, Feeds};
 pub struct Reader {
     // What comes next: 0 to 2 tag and length of the number, 3 to 10 the number, 11 to 13 tag and length of the count, 14 and 15 the
     // count, 16 a tag, 17 and 18 the length of an address, 19 to 26 the address, 27 and 28 the end's length, 29 nothing.
+    // A number and no enum: the rules' reader (specs/Messages.antt) counts the places so, and `Sound` bounds it.
     pub place: u64,
     pub number: u64,
     pub count: u64,
@@ -18,34 +19,38 @@ pub struct Reader {
     pub ones: bool,
 }
 
-// What one byte leads to.
+// What one byte leads to, where a right message can have it.
 #[derive(Clone, Copy)]
-pub enum Fed {
-    Going(Reader),
-    // The byte was the last one of an address.
-    Address { reader: Reader, address: u64 },
-    // No right message can have the byte there.
-    Wrong,
+pub struct Fed {
+    pub reader: Reader,
+    // The address of which the byte was the last one.
+    pub address: Option<u64>,
 }
 
+// The tags 1, 2, 3 and 9 are the format's numbers (docs/MESSAGE.md), and bytes to the functions below.
+
 // No entry has this address.
-pub const ALL_ONES: u64 = 18446744073709551615;
+pub const ALL_ONES: u64 = u64::MAX;
 
 // A byte that has to be this one, and the place after it.
-fn expect(expected: u64, next: u64, b: u64, r: Reader) -> Fed
+fn expect(expected: u64, next: u64, b: u64, r: Reader) -> Option<Fed>
     ensures { Feeds (expects expected next b) r result }
 {
     if b != expected {
-        return Fed::Wrong;
+        return None;
     }
-    Fed::Going(Reader {
-        place: next,
-        number: r.number,
-        count: r.count,
-        part: r.part,
-        taken: r.taken,
-        ones: r.ones,
+    let reader = Reader { place: next, ..r };
+    Some(Fed {
+        reader,
+        address: None,
     })
+}
+
+// A byte of a length, which is below 256: 0 at the place of the high byte, else the length.
+fn length_byte(place: u64, high: u64, length: u64) -> u64
+    ensures { result ≡ (if eqb place high then 0 else length) }
+{
+    if place == high { 0 } else { length }
 }
 
 // The number's tag and length.
@@ -53,147 +58,106 @@ fn number_head(place: u64) -> u64
     ensures { result ≡ (if eqb place 0 then 1 else (if eqb place 1 then 0 else 8)) }
 {
     if place == 0 {
-        return 1;
+        1
+    } else {
+        length_byte(place, 1, 8)
     }
-    if place == 1 {
-        return 0;
-    }
-    8
-}
-
-// The count's.
-fn count_head(place: u64) -> u64
-    ensures { result ≡ (if eqb place 12 then 0 else 2) }
-{
-    if place == 12 {
-        return 0;
-    }
-    2
-}
-
-// An address's length.
-fn address_length(place: u64) -> u64
-    ensures { result ≡ (if eqb place 17 then 0 else 8) }
-{
-    if place == 17 {
-        return 0;
-    }
-    8
 }
 
 // A tag: 3 while addresses are wanting, then 9.
-fn tag(b: u64, r: Reader) -> Fed
+fn tag(b: u64, r: Reader) -> Option<Fed>
     ensures { Feeds (messages.tag b) r result }
 {
     if r.taken < r.count {
-        return expect(3, 17, b, r);
+        expect(3, 17, b, r)
+    } else {
+        expect(9, 27, b, r)
     }
-    expect(9, 27, b, r)
 }
 
-fn number_byte(b: u64, r: Reader) -> Fed
+// A byte of the number, of the count, of an address: each grows its own field. One function for all three would need the field as
+// a closure, and three of these at its calls.
+fn number_byte(b: u64, r: Reader) -> Option<Fed>
     requires { (b < 256) × (r.place < 29) × (r.number < 2 ^ 56) }
     ensures { Feeds (messages.number_byte b) r result }
 {
-    Fed::Going(Reader {
+    let reader = Reader {
         place: r.place + 1,
         number: r.number * 256 + b,
-        count: r.count,
-        part: r.part,
-        taken: r.taken,
-        ones: r.ones,
+        ..r
+    };
+    Some(Fed {
+        reader,
+        address: None,
     })
 }
 
-fn count_byte(b: u64, r: Reader) -> Fed
+fn count_byte(b: u64, r: Reader) -> Option<Fed>
     requires { (b < 256) × (r.place < 29) × (r.count < 256) }
     ensures { Feeds (messages.count_byte b) r result }
 {
-    Fed::Going(Reader {
+    let reader = Reader {
         place: r.place + 1,
-        number: r.number,
         count: r.count * 256 + b,
-        part: r.part,
-        taken: r.taken,
-        ones: r.ones,
+        ..r
+    };
+    Some(Fed {
+        reader,
+        address: None,
     })
 }
 
-fn address_byte(b: u64, r: Reader) -> Fed
+fn address_byte(b: u64, r: Reader) -> Option<Fed>
     requires { (b < 256) × (r.place < 29) × (r.part < 2 ^ 56) }
     ensures { Feeds (messages.address_byte b) r result }
 {
-    Fed::Going(Reader {
+    let reader = Reader {
         place: r.place + 1,
-        number: r.number,
-        count: r.count,
         part: r.part * 256 + b,
-        taken: r.taken,
-        ones: r.ones,
+        ..r
+    };
+    Some(Fed {
+        reader,
+        address: None,
     })
 }
 
 // The last byte of an address: a tag comes next.
-fn last_byte(b: u64, r: Reader) -> Fed
+fn last_byte(b: u64, r: Reader) -> Option<Fed>
     requires { (b < 256) × (r.part < 2 ^ 56) × (r.taken < 65536) }
     ensures { Feeds (messages.last_byte b) r result }
 {
     let address = r.part * 256 + b;
-    Fed::Address {
-        reader: Reader {
-            place: 16,
-            number: r.number,
-            count: r.count,
-            part: 0,
-            taken: r.taken + 1,
-            ones: r.ones | (address == ALL_ONES),
-        },
-        address,
-    }
-}
-
-// One byte from the second tag on.
-fn feed_address(b: u64, r: Reader) -> Fed
-    requires { (b < 256) × (16 ≤ r.place) × Sound r }
-    ensures { Feeds (messages.feed b) r result }
-{
-    let place = r.place;
-    if place == 16 {
-        return tag(b, r);
-    }
-    if place < 19 {
-        return expect(address_length(place), place + 1, b, r);
-    }
-    if place < 26 {
-        return address_byte(b, r);
-    }
-    if place == 26 {
-        return last_byte(b, r);
-    }
-    if place < 29 {
-        return expect(0, place + 1, b, r);
-    }
-    Fed::Wrong
+    let reader = Reader {
+        place: 16,
+        part: 0,
+        taken: r.taken + 1,
+        ones: r.ones | (address == ALL_ONES),
+        ..r
+    };
+    Some(Fed {
+        reader,
+        address: Some(address),
+    })
 }
 
 // One byte more.
-pub fn feed(byte: u8, r: Reader) -> Fed
+pub fn feed(byte: u8, r: Reader) -> Option<Fed>
     requires { Sound r }
     ensures { Feeds (messages.feed byte) r result }
 {
-    let b = byte as u64;
+    let b = u64::from(byte);
     let place = r.place;
-    if place < 3 {
-        return expect(number_head(place), place + 1, b, r);
+    match place {
+        0..3 => expect(number_head(place), place + 1, b, r),
+        3..11 => number_byte(b, r),
+        11..14 => expect(length_byte(place, 12, 2), place + 1, b, r),
+        14..16 => count_byte(b, r),
+        16 => tag(b, r),
+        17..19 => expect(length_byte(place, 17, 8), place + 1, b, r),
+        19..26 => address_byte(b, r),
+        26 => last_byte(b, r),
+        27..29 => expect(0, place + 1, b, r),
+        29.. => None,
     }
-    if place < 11 {
-        return number_byte(b, r);
-    }
-    if place < 14 {
-        return expect(count_head(place), place + 1, b, r);
-    }
-    if place < 16 {
-        return count_byte(b, r);
-    }
-    feed_address(b, r)
 }

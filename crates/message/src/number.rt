@@ -2,16 +2,11 @@
 ghost use Rattle.std.specs.Prelude.{not, ◌||◌, ◌≡◌, eqb};
 ghost use Rattle.rules.specs.Messages.{next_after};
 
-const LAST: u64 = 18446744073709551615;
-
-// The number after one that is used: after the last one 0, none is left.
+// The number after one that is used: after the last one 0, none is left, as a word of the table and C have it.
 pub fn next_after(number: u64) -> u64
     ensures { result ≡ next_after number }
 {
-    if number == LAST {
-        return 0;
-    }
-    number + 1
+    number.checked_add(1).unwrap_or(0)
 }
 
 // Whether a message's number is not the next, or none is left.

@@ -6,7 +6,7 @@
 use entries::default_threshold;
 use rules::request::{Access, Request};
 use settings::{Mode, Settings};
-use shell::print;
+use shell::{ask, print};
 use std::io;
 
 const ROWS: u64 = 64;
@@ -27,17 +27,6 @@ const VISITS: u64 = 400;
 // How many records are looked at often.
 const OFTEN: u64 = 31;
 
-fn ask(
-    rt: &impl Print,
-    table: &mut Table,
-    orders: &mut Orders,
-    request: Request,
-) -> io::Result<()> {
-    let none = [0u8; 0];
-    let answer = cache::step(table, orders, &none, request);
-    print::answer(rt, orders, answer)
-}
-
 // A record read, or changed.
 fn visit(
     rt: &impl Print,
@@ -47,13 +36,12 @@ fn visit(
     size: u64,
     changed: bool,
 ) -> io::Result<()> {
-    let access = Access::Writing;
     ask(
         rt,
         table,
         orders,
         Request::Protect {
-            access,
+            access: Access::Writing,
             address,
             size,
         },
@@ -73,12 +61,10 @@ fn record(i: u64) -> u64 {
 }
 
 fn night(rt: &impl Print, table: &mut Table, orders: &mut Orders) -> io::Result<()> {
-    let mut i: u64 = 0;
-    while i < VISITS {
+    for i in 0..VISITS {
         let address = record(i);
         let size = 20000 + address % 10000 * 7919 % 90001;
         visit(rt, table, orders, address, size, i % 3 == 0)?;
-        i += 1;
     }
     ask(rt, table, orders, Request::Flush)
 }
@@ -86,10 +72,11 @@ fn night(rt: &impl Print, table: &mut Table, orders: &mut Orders) -> io::Result<
 fn main(rt: HostRuntime) -> io::Result<()> {
     let mut table = [0u64; TABLE_WORDS];
     let mut orders = [0u64; ORDER_WORDS];
-    let none = [0u64; 0];
-    let mut s = Settings::defaults(Mode::Alone);
-    s.clean = 0.3;
+    let s = Settings {
+        clean: 0.3,
+        ..Settings::defaults(Mode::Alone)
+    };
     let answer = cache::open(&mut table, ROWS, Mode::Alone, default_threshold(), s);
-    print::answer(&rt, &none, answer)?;
+    print::answer(&rt, &[], answer)?;
     night(&rt, &mut table, &mut orders)
 }

@@ -2,7 +2,7 @@
 use Prim.Native.Nat.{ℕ, zero, suc, ◌+◌, ◌<◌, ◌≤◌}
 use mathlib.Core.Bool.{Bool, true, false, false≢true}
 use mathlib.Core.List.{List, [], ◌∷◌}
-use mathlib.Core.Option.{none}
+use Rattle.std.specs.Prelude.{None}
 use mathlib.Core.Path.{◌≡◌, refl}
 use native.Mathlib.Omega.{arith}
 use lib.Ieee.{le, lt, round}
@@ -20,7 +20,7 @@ use Rattle.numbers.specs.declared.raw.RawSettings.{RawSettings}
 use Rattle.numbers.proofs.Listed.{neither}
 
 -- a kind above 1, where 0 and 1 are known
-neither_kind : {A : Type 0} (x y : A) (n : ℕ) → 1 < n → meaning ((0, x) ∷ (1, y) ∷ []) n ≡ none
+neither_kind : {A : Type 0} (x y : A) (n : ℕ) → 1 < n → meaning ((0, x) ∷ (1, y) ∷ []) n ≡ None
 neither_kind x y n h = neither 0 1 x y n (λ e. omega arith) (λ e. omega arith)
 
 -- a kind above 3 of a decrease rule

@@ -1,12 +1,10 @@
 -- What the numbers that a host gives stand for.
-use Rattle.std.specs.Prelude.{ℕ, List, [], ◌∷◌, ◌++◌, eqb, if◌then◌else◌}
-use Rattle.std.proofs.Math.Option.{Option, none, some, get_or}
+use Rattle.std.specs.Prelude.{ℕ, List, [], ◌∷◌, ◌++◌, eqb, if◌then◌else◌, Option, None, Some, unwrap_or}
 use Rattle.fraction.specs.Fraction.{decimal}
 use Rattle.settings.specs.declared.Settings.{Settings}
 use Rattle.settings.specs.declared.Increase.{Increase}
 use Rattle.settings.specs.declared.Increase.TheVariants as increase
-use Rattle.settings.specs.declared.Cap.{Cap}
-use Rattle.settings.specs.declared.Cap.TheVariants as cap
+use Rattle.settings.specs.Types.{Cap}
 use Rattle.settings.specs.declared.Flash.{Flash}
 use Rattle.settings.specs.declared.Flash.TheVariants as flash
 use Rattle.settings.specs.declared.Decrease.{Decrease}
@@ -24,15 +22,14 @@ use Rattle.numbers.specs.declared.raw.RawFlash.{RawFlash}
 use Rattle.numbers.specs.declared.raw.RawIncrease.{RawIncrease}
 use Rattle.numbers.specs.declared.raw.RawRequest.{RawRequest}
 use Rattle.numbers.specs.declared.raw.RawSettings.{RawSettings}
-use Rattle.numbers.specs.declared.request.Asked.{Asked}
-use Rattle.numbers.specs.declared.request.Asked.TheVariants.{Known, Unknown}
+use Rattle.numbers.specs.Types.{Asked}
 
 -- ---- numbers and what they stand for
 
 -- What a number stands for by a list of numbers and meanings; nothing if the list has not the number.
 unfoldable pub meaning : {A : Type 0} → List (ℕ × A) → ℕ → Option A
-meaning [] n = none
-meaning (m ∷ rest) n = if eqb n m.0 then some m.1 else meaning rest n
+meaning [] n = None
+meaning (m ∷ rest) n = if eqb n m.0 then Some m.1 else meaning rest n
 
 -- ---- the mode
 
@@ -45,22 +42,22 @@ mode_of_raw n = meaning ((0, Alone) ∷ (1, Lead) ∷ (2, Standby) ∷ []) n
 -- does not name are not read.
 unfoldable pub increase_of_raw : RawIncrease → Increase
 increase_of_raw w =
-    get_or
+    unwrap_or
     (meaning ((0, increase.Off) ∷ (1, increase.Threshold w.lower w.multiplier) ∷ []) w.kind)
     (increase.Threshold (decimal 0 1) (decimal 0 1))
 
 unfoldable pub cap_of_raw : RawCap → Cap
-cap_of_raw w = get_or (meaning ((0, cap.None) ∷ (1, cap.Upto w.bytes) ∷ []) w.kind) (cap.Upto all_ones)
+cap_of_raw w = unwrap_or (meaning ((0, None) ∷ (1, Some w.bytes) ∷ []) w.kind) (Some all_ones)
 
 unfoldable pub flash_of_raw : RawFlash → Flash
 flash_of_raw w =
-    get_or
+    unwrap_or
     (meaning ((0, flash.Off) ∷ (1, flash.On w.multiple w.threshold) ∷ []) w.kind)
     (flash.On (decimal 0 1) (decimal 0 1))
 
 unfoldable pub decrease_of_raw : RawDecrease → Decrease
 decrease_of_raw w =
-    get_or
+    unwrap_or
     (meaning
     ((0, decrease.Off)
     ∷ (1, decrease.Threshold w.upper w.multiplier)
@@ -90,8 +87,8 @@ settings_of_raw w = record {
 -- ---- the request
 
 abbrev pub asked : Option Request → Asked
-asked none = Unknown
-asked (some r) = Known r
+asked None = None
+asked (Some r) = Some r
 
 -- The requests that an address and a size are enough for have the kinds 1 to 11.
 abbrev pub plain_kinds : ℕ → ℕ → List (ℕ × Request)

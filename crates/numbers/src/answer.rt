@@ -4,21 +4,23 @@ ghost use Rattle.numbers.specs.Answers.{answer_numbers};
 
 use crate::raw::RawAnswer;
 use answers::{refusal_field, refusal_number};
-use rules::answer::Answer;
+use rules::answer::Refusal;
 
-pub fn answer_of(a: Answer) -> RawAnswer
-    ensures { result ≡ answer_numbers a }
-{
-    match a {
-        Answer::Accepted(orders) => RawAnswer {
-            number: 0,
-            field: 0,
-            orders,
-        },
-        Answer::Refused(x) => RawAnswer {
-            number: refusal_number(x),
-            field: refusal_field(x),
-            orders: 0,
-        },
+impl From<Result<u64, Refusal>> for RawAnswer {
+    ghost from_gives = { λ a w. w ≡ answer_numbers a };
+
+    fn from(a: Result<u64, Refusal>) -> RawAnswer {
+        match a {
+            Ok(orders) => RawAnswer {
+                number: 0,
+                field: 0,
+                orders,
+            },
+            Err(x) => RawAnswer {
+                number: refusal_number(x),
+                field: refusal_field(x),
+                orders: 0,
+            },
+        }
     }
 }

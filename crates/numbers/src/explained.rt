@@ -1,13 +1,13 @@
-// An answer with the change of the maximum, as numbers.
+// An answer with the change of the maximum, as numbers. An impl of From for a Cause or a Bound would have to stand in crate
+// `reason_rules`, so these are functions.
 ghost use Rattle.std.specs.Prelude.{◌≡◌};
 ghost use Rattle.reason_rules.specs.Bounds.{bound_number};
 ghost use Rattle.reason_rules.specs.Reasons.{cause_number};
 ghost use Rattle.numbers.specs.Explanations.{change_cause, change_bound, explanation_numbers};
 
-use crate::answer::answer_of;
-use crate::raw::RawExplanation;
+use crate::raw::{RawAnswer, RawExplanation};
 use reason_rules::{Bound, Cause, Change};
-use rules::answer::Answer;
+use rules::answer::Refusal;
 
 fn cause_number(cause: Cause) -> u64
     ensures { result ≡ cause_number cause }
@@ -22,45 +22,47 @@ fn cause_number(cause: Cause) -> u64
 }
 
 // The number of the settings' field.
-fn bound_number(bound: Bound) -> u64
+fn bound_number(bound: Option<Bound>) -> u64
     ensures { result ≡ bound_number bound }
 {
     match bound {
-        Bound::None => 0,
-        Bound::Largest => 5,
-        Bound::Smallest => 6,
-        Bound::Increment => 9,
-        Bound::Decrement => 12,
+        None => 0,
+        Some(Bound::Largest) => 5,
+        Some(Bound::Smallest) => 6,
+        Some(Bound::Increment) => 9,
+        Some(Bound::Decrement) => 12,
     }
 }
 
-fn change_cause(change: Change) -> u64
+fn change_cause(change: Option<Change>) -> u64
     ensures { result ≡ change_cause change }
 {
     match change {
-        Change::Same => 0,
-        Change::To { cause, bound: _ } => cause_number(cause),
+        None => 0,
+        Some(x) => cause_number(x.cause),
     }
 }
 
-fn change_bound(change: Change) -> u64
+fn change_bound(change: Option<Change>) -> u64
     ensures { result ≡ change_bound change }
 {
     match change {
-        Change::Same => 0,
-        Change::To { cause: _, bound } => bound_number(bound),
+        None => 0,
+        Some(x) => bound_number(x.bound),
     }
 }
 
-pub fn explanation_of(a: Answer, change: Change) -> RawExplanation
-    ensures { result ≡ explanation_numbers a change }
-{
-    let told = answer_of(a);
-    RawExplanation {
-        number: told.number,
-        field: told.field,
-        orders: told.orders,
-        cause: change_cause(change),
-        bound: change_bound(change),
+impl From<(Result<u64, Refusal>, Option<Change>)> for RawExplanation {
+    ghost from_gives = { λ x w. w ≡ explanation_numbers x.0 x.1 };
+
+    fn from((answer, change): (Result<u64, Refusal>, Option<Change>)) -> RawExplanation {
+        let told = RawAnswer::from(answer);
+        RawExplanation {
+            number: told.number,
+            field: told.field,
+            orders: told.orders,
+            cause: change_cause(change),
+            bound: change_bound(change),
+        }
     }
 }

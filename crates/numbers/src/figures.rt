@@ -1,21 +1,37 @@
 // The figures of a report as numbers.
 ghost use Rattle.std.specs.Prelude.{◌≡◌};
-ghost use Rattle.numbers.specs.Answers.{figure_numbers};
+ghost use Rattle.numbers.specs.Answers.{no_report, figures_with, figure_numbers};
 
-use crate::answer::answer_of;
 use crate::raw::RawFigures;
-use rules::answer::Answer;
+use answers::refusal_number;
+use rules::answer::Refusal;
 use rules::report::Report;
 use settings_words::flag_word;
 
-pub fn figures_of(answer: Answer, report: Report) -> RawFigures
-    ensures { result ≡ figure_numbers answer report }
+// The figures of a report that is refused.
+fn no_report() -> Report
+    ensures { result ≡ no_report }
 {
-    let due = report.due;
+    Report {
+        held: 0,
+        dirty: 0,
+        entries: 0,
+        maximum: 0,
+        clean: 0,
+        missing: 0,
+        count: 0,
+        due: false,
+        next: 0,
+        totals: [0u64; 11],
+    }
+}
+
+fn figures_with(number: u64, report: Report) -> RawFigures
+    ensures { result ≡ figures_with number report }
+{
     let totals = report.totals;
-    let a = answer_of(answer);
     RawFigures {
-        number: a.number,
+        number,
         held: report.held,
         dirty: report.dirty,
         entries: report.entries,
@@ -23,8 +39,19 @@ pub fn figures_of(answer: Answer, report: Report) -> RawFigures
         clean: report.clean,
         missing: report.missing,
         count: report.count,
-        due: flag_word(due),
+        due: flag_word(report.due),
         next: report.next,
         totals,
+    }
+}
+
+impl From<Result<Report, Refusal>> for RawFigures {
+    ghost from_gives = { λ told w. w ≡ figure_numbers told };
+
+    fn from(told: Result<Report, Refusal>) -> RawFigures {
+        match told {
+            Ok(report) => figures_with(0, report),
+            Err(refusal) => figures_with(refusal_number(refusal), no_report()),
+        }
     }
 }

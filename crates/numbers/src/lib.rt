@@ -8,6 +8,8 @@
 //     verdict    a verdict as numbers
 //     figures    a report as numbers
 //     writing    what writing a message came to, as numbers
+//
+// Kinds, causes, bounds and refusals are numbers here and no enums: the C interface has them so.
 #![tactic(auto)]
 
 pub mod answer;

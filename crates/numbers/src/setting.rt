@@ -4,102 +4,108 @@ ghost use Rattle.std.specs.Prelude.{◌≡◌};
 ghost use Rattle.numbers.specs.Meanings.{increase_of_raw, cap_of_raw, flash_of_raw, decrease_of_raw, settings_of_raw};
 
 use crate::raw::{RawCap, RawDecrease, RawFlash, RawIncrease, RawSettings};
-use settings::{Cap, Decrease, Flash, Increase, Settings};
+use settings::{Decrease, Flash, Increase, Settings};
 
 // Bytes that no cap may have.
-const ABOVE_LIMIT: u64 = 18446744073709551615;
+const ABOVE_LIMIT: u64 = u64::MAX;
 
-fn increase_of(w: RawIncrease) -> Increase
-    ensures { result ≡ increase_of_raw w }
-{
-    let kind = w.kind;
-    match kind {
-        0 => Increase::Off,
-        1 => Increase::Threshold {
-            lower: w.lower,
-            multiplier: w.multiplier,
-        },
-        _ => Increase::Threshold {
-            lower: 0.0,
-            multiplier: 0.0,
-        },
+impl From<RawIncrease> for Increase {
+    ghost from_gives = { λ w x. x ≡ increase_of_raw w };
+
+    #[tactic(auto, using(crate::proofs::Listed::zero_bits), unfolding(crate::specs::Meanings::increase_of_raw, crate::specs::Meanings::meaning))]
+    fn from(w: RawIncrease) -> Increase {
+        match w.kind {
+            0 => Increase::Off,
+            1 => Increase::Threshold {
+                lower: w.lower,
+                multiplier: w.multiplier,
+            },
+            _ => Increase::Threshold {
+                lower: 0.0,
+                multiplier: 0.0,
+            },
+        }
     }
 }
 
-fn cap_of(w: RawCap) -> Cap
-    ensures { result ≡ cap_of_raw w }
-{
-    let kind = w.kind;
-    match kind {
-        0 => Cap::None,
-        1 => Cap::Upto(w.bytes),
-        _ => Cap::Upto(ABOVE_LIMIT),
+impl From<RawCap> for Option<u64> {
+    ghost from_gives = { λ w x. x ≡ cap_of_raw w };
+
+    #[tactic(auto, unfolding(crate::specs::Meanings::cap_of_raw, crate::specs::Meanings::meaning))]
+    fn from(w: RawCap) -> Option<u64> {
+        match w.kind {
+            0 => None,
+            1 => Some(w.bytes),
+            _ => Some(ABOVE_LIMIT),
+        }
     }
 }
 
-fn flash_of(w: RawFlash) -> Flash
-    ensures { result ≡ flash_of_raw w }
-{
-    let kind = w.kind;
-    match kind {
-        0 => Flash::Off,
-        1 => Flash::On {
-            multiple: w.multiple,
-            threshold: w.threshold,
-        },
-        _ => Flash::On {
-            multiple: 0.0,
-            threshold: 0.0,
-        },
+impl From<RawFlash> for Flash {
+    ghost from_gives = { λ w x. x ≡ flash_of_raw w };
+
+    #[tactic(auto, using(crate::proofs::Listed::zero_bits), unfolding(crate::specs::Meanings::flash_of_raw, crate::specs::Meanings::meaning))]
+    fn from(w: RawFlash) -> Flash {
+        match w.kind {
+            0 => Flash::Off,
+            1 => Flash::On {
+                multiple: w.multiple,
+                threshold: w.threshold,
+            },
+            _ => Flash::On {
+                multiple: 0.0,
+                threshold: 0.0,
+            },
+        }
     }
 }
 
-fn decrease_of(w: RawDecrease) -> Decrease
-    ensures { result ≡ decrease_of_raw w }
-{
-    let kind = w.kind;
-    match kind {
-        0 => Decrease::Off,
-        1 => Decrease::Threshold {
-            upper: w.upper,
-            multiplier: w.multiplier,
-        },
-        2 => Decrease::AgeOut {
-            epochs: w.epochs,
-            reserve: w.reserve,
-        },
-        3 => Decrease::AgeOutWithThreshold {
-            upper: w.upper,
-            epochs: w.epochs,
-            reserve: w.reserve,
-        },
-        _ => Decrease::AgeOut {
-            epochs: 0,
-            reserve: 0.0,
-        },
+impl From<RawDecrease> for Decrease {
+    ghost from_gives = { λ w x. x ≡ decrease_of_raw w };
+
+    #[tactic(auto, using(crate::proofs::Listed::zero_bits), unfolding(crate::specs::Meanings::decrease_of_raw, crate::specs::Meanings::meaning))]
+    fn from(w: RawDecrease) -> Decrease {
+        match w.kind {
+            0 => Decrease::Off,
+            1 => Decrease::Threshold {
+                upper: w.upper,
+                multiplier: w.multiplier,
+            },
+            2 => Decrease::AgeOut {
+                epochs: w.epochs,
+                reserve: w.reserve,
+            },
+            3 => Decrease::AgeOutWithThreshold {
+                upper: w.upper,
+                epochs: w.epochs,
+                reserve: w.reserve,
+            },
+            _ => Decrease::AgeOut {
+                epochs: 0,
+                reserve: 0.0,
+            },
+        }
     }
 }
 
-pub fn settings_of(w: RawSettings) -> Settings
-    ensures { result ≡ settings_of_raw w }
-{
-    let increase = w.increase;
-    let increment = w.increment;
-    let flash = w.flash;
-    let decrease = w.decrease;
-    let decrement = w.decrement;
-    Settings {
-        evictions: w.evictions != 0,
-        preset: w.preset != 0,
-        initial: w.initial,
-        clean: w.clean,
-        largest: w.largest,
-        smallest: w.smallest,
-        epoch: w.epoch,
-        increase: increase_of(increase),
-        increment: cap_of(increment),
-        flash: flash_of(flash),
-        decrease: decrease_of(decrease),
-        decrement: cap_of(decrement),
+impl From<RawSettings> for Settings {
+    ghost from_gives = { λ w x. x ≡ settings_of_raw w };
+
+    #[tactic(auto, unfolding(crate::specs::Meanings::settings_of_raw))]
+    fn from(w: RawSettings) -> Settings {
+        Settings {
+            evictions: w.evictions != 0,
+            preset: w.preset != 0,
+            initial: w.initial,
+            clean: w.clean,
+            largest: w.largest,
+            smallest: w.smallest,
+            epoch: w.epoch,
+            increase: w.increase.into(),
+            increment: w.increment.into(),
+            flash: w.flash.into(),
+            decrease: w.decrease.into(),
+            decrement: w.decrement.into(),
+        }
     }
 }

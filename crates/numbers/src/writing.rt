@@ -4,16 +4,18 @@ ghost use Rattle.numbers.specs.Answers.{written_numbers};
 
 use crate::raw::RawWritten;
 use answers::refusal_number;
-use message::write::Written;
+use rules::answer::Refusal;
 
-pub fn written_of(w: Written) -> RawWritten
-    ensures { result ≡ written_numbers w }
-{
-    match w {
-        Written::Bytes(bytes) => RawWritten { number: 0, bytes },
-        Written::Refused(x) => RawWritten {
-            number: refusal_number(x),
-            bytes: 0,
-        },
+impl From<Result<u64, Refusal>> for RawWritten {
+    ghost from_gives = { λ written w. w ≡ written_numbers written };
+
+    fn from(written: Result<u64, Refusal>) -> RawWritten {
+        match written {
+            Ok(bytes) => RawWritten { number: 0, bytes },
+            Err(x) => RawWritten {
+                number: refusal_number(x),
+                bytes: 0,
+            },
+        }
     }
 }

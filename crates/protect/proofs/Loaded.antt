@@ -2,7 +2,7 @@
 use Prim.Native.Nat.{ℕ, ◌+◌}
 use mathlib.Core.Bool.{true, false}
 use mathlib.Core.List.{List, append-nil}
-use mathlib.Core.Option.{none}
+use Rattle.std.specs.Prelude.{None}
 use mathlib.Core.Path.{◌≡◌, refl, ap, subst, ◌∙◌}
 use native.Mathlib.Omega.{arith}
 use Rattle.rules.proofs.Effects.{joined_new, new_allowed}
@@ -42,7 +42,7 @@ module _ (x : Access) (a s : ℕ) {h : Hold} {e : Entry} (p : h ≡ joined x Unh
   entry_is : e ≡ entry_for x a s
   entry_is = q ∙ ap (new_entry a s false) p
 
-  pub load_adds : {c : Cache} → has_free c.rows ≡ true → get c.rows a ≡ none → bad_address a ≡ false → bad_size s ≡ false → Addable c e
+  pub load_adds : {c : Cache} → has_free c.rows ≡ true → get c.rows a ≡ None → bad_address a ≡ false → bad_size s ≡ false → Addable c e
   load_adds f n b z = rw entry_is (record { free = f; absent = n; allowed = new_allowed a s b z false (joined x Unheld) (joined_new x) })
 
   pub load_did : (c : Cache) {rest table lent words : List ℕ} {before : ℕ} → words ≡ put_order before (record { kind = Load; address = a; size = s }) lent

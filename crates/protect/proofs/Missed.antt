@@ -2,7 +2,7 @@
 use Prim.Native.Nat.{ℕ, ◌+◌, ◌*◌, ◌≤◌}
 use mathlib.Core.Bool.{true, false}
 use mathlib.Core.List.{List, ◌∷◌, ◌++◌}
-use mathlib.Core.Option.{none}
+use Rattle.std.specs.Prelude.{None, Option}
 use mathlib.Core.Path.{◌≡◌, sym, ap, ap₂, ◌∙◌}
 use native.Mathlib.Omega.{arith}
 use lib.Dec.{ltb}
@@ -39,14 +39,14 @@ use Rattle.protect.proofs.Loaded.{entry_for, no_orders}
 use Rattle.protect.proofs.Words.{words_enough}
 use Rattle.protect.specs.Told.{loaded_work, miss_reasons, miss_changes}
 
-module _ (x : Access) (a s : ℕ) (c : Cache) (k : Allowed c) (n : get c.rows a ≡ none) (f : no_row c ≡ false) {table₁ rest lent words₁ : List ℕ} {evicted : ℕ}
+module _ (x : Access) (a s : ℕ) (c : Cache) (k : Allowed c) (n : get c.rows a ≡ None) (f : no_row c ≡ false) {table₁ rest lent words₁ : List ℕ} {evicted : ℕ}
     (d : Did (room_for s c) rest table₁ 0 lent words₁ evicted) where
   is_ready : Ready a s c
   is_ready = ready a s c k.sound (ap (passes (λ e. true)) n) f
 
   -- the table that the load begins with, and the words that are left for its order
   pub load_asks : {rows : ℕ} → rows ≡ length c.rows → too_few_words c (length lent) ≡ false → length words₁ ≡ length lent
-      → GoodRows table₁ rows × (has_free (cache_in table₁).rows ≡ true) × (get (cache_in table₁).rows a ≡ none) × (evicted * 3 + 3 ≤ length words₁)
+      → GoodRows table₁ rows × (has_free (cache_in table₁).rows ≡ true) × (get (cache_in table₁).rows a ≡ None) × (evicted * 3 + 3 ≤ length words₁)
   load_asks m t l = (
     admitted_good c a s k.sound n f d m,
     admitted_free c a s k.sound n f d,
@@ -84,7 +84,7 @@ module _ (x : Access) (a s : ℕ) (c : Cache) (k : Allowed c) (n : get c.rows a 
         (h ∙ ap (λ (d : Cache). count_reasons false (start d)) loaded_cache ∙ count_from false (loaded_work x a s c))
 
     -- the flash's change, or the epoch's
-    pub missed_changes : {r f g : Change} → r ≡ first_of f g → f ≡ change_of (flash_change s c) → g ≡ change_of (count_change false (start (cache_in table₂)))
+    pub missed_changes : {r f g : Option Change} → r ≡ first_of f g → f ≡ change_of (flash_change s c) → g ≡ change_of (count_change false (start (cache_in table₂)))
         → r ≡ change_of (miss_changes x a s c)
     missed_changes p q h =
         p ∙ ap₂ first_of q (h ∙ ap change_of (ap (λ (d : Cache). count_change false (start d)) loaded_cache ∙ change_from false (loaded_work x a s c)))

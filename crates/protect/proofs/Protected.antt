@@ -1,4 +1,5 @@
 -- A hit: the entry takes one more hold that its own hold does not forbid, so it stays within its limits.
+use Rattle.std.specs.Prelude.{Option}
 use Prim.Native.Nat.{ℕ}
 use mathlib.Core.Bool.{true, false}
 use mathlib.Core.List.{List}
@@ -50,7 +51,7 @@ module _ (x : Access) (a : ℕ) (c : Cache) {table₁ rest : List ℕ} (h : Hold
       → Did (hit x a c) rest table 0 lent words r
   hit_did = count_joins (did_holds h) true
 
-  pub hit_named : {l : List Reason} {r : Change} → l ≡ count_reasons true (start (cache_in table₁)) → r ≡ change_of (count_change true (start (cache_in table₁)))
+  pub hit_named : {l : List Reason} {r : Option Change} → l ≡ count_reasons true (start (cache_in table₁)) → r ≡ change_of (count_change true (start (cache_in table₁)))
       → (l ≡ hit_reasons x a c) × (r ≡ change_of (hit_changes x a c))
   hit_named p q =
       (p ∙ ap (λ (d : Cache). count_reasons true (start d)) (holds_cache h), q ∙ ap (λ (d : Cache). change_of (count_change true (start d))) (holds_cache h))

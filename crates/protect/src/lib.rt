@@ -2,7 +2,6 @@
 #![tactic(auto)]
 
 ghost use Rattle.std.specs.Prelude.{◌≡◌, true, false, [], ◌∷◌, ◌++◌, ◌≤◌, ◌+◌, ◌*◌, length};
-ghost use Rattle.std.proofs.Math.Option.{none};
 ghost use Rattle.rules.specs.declared.request.Request.TheVariants.{Protect};
 ghost use Rattle.rules.specs.Allowed.{Allowed};
 ghost use Rattle.rules.specs.Cache.{start};
@@ -47,7 +46,7 @@ fn load(
     size: u64,
     before: usize,
 ) -> usize
-    requires { GoodRows table.old rows × (has_free (cache_in table.old).rows ≡ true) × (get (cache_in table.old).rows address ≡ none) × (bad_address address ≡ false) × (bad_size size ≡ false) × (before * 3 + 3 ≤ length orders.old) }
+    requires { GoodRows table.old rows × (has_free (cache_in table.old).rows ≡ true) × (get (cache_in table.old).rows address ≡ None) × (bad_address address ≡ false) × (bad_size size ≡ false) × (before * 3 + 3 ≤ length orders.old) }
     ensures { Did (loaded access address size (start (cache_in table.old))) (rest_in table.old) table.new before orders.old orders.new result }
 {
     let order = Order {
@@ -65,21 +64,15 @@ fn load(
 fn done_by_miss(admitted: Admitted, counted: Counted) -> Done
     ensures { (result.given ≡ counted.given) × (all_runs result.runs ≡ room_runs admitted.runs ++ (reason.Load ∷ aged_runs counted)) × (result.change ≡ first_of admitted.change counted.change) }
 {
-    let room = admitted.runs;
-    let again = counted.again;
-    let runs = Runs {
-        room,
-        load: 1,
-        aged: counted.aged,
-        again,
-    };
-    let flashed = admitted.change;
-    let resized = counted.change;
-    let change = first_of(flashed, resized);
     Done {
         given: counted.given,
-        runs,
-        change,
+        runs: Runs {
+            room: admitted.runs,
+            load: 1,
+            aged: counted.aged,
+            again: counted.again,
+        },
+        change: first_of(admitted.change, counted.change),
     }
 }
 
@@ -87,19 +80,15 @@ fn done_by_miss(admitted: Admitted, counted: Counted) -> Done
 fn done_by_hit(counted: Counted) -> Done
     ensures { (result.given ≡ counted.given) × (all_runs result.runs ≡ aged_runs counted) × (result.change ≡ counted.change) }
 {
-    let room = no_runs();
-    let again = counted.again;
-    let runs = Runs {
-        room,
-        load: 0,
-        aged: counted.aged,
-        again,
-    };
-    let change = counted.change;
     Done {
         given: counted.given,
-        runs,
-        change,
+        runs: Runs {
+            room: no_runs(),
+            load: 0,
+            aged: counted.aged,
+            again: counted.again,
+        },
+        change: counted.change,
     }
 }
 
@@ -112,7 +101,7 @@ fn miss(
     address: u64,
     size: u64,
 ) -> Done
-    requires { GoodRows table.old rows × Allowed (cache_in table.old) × (get (cache_in table.old).rows address ≡ none) × (too_few_words (cache_in table.old) (length orders.old) ≡ false) × (bad_address address ≡ false) × (bad_size size ≡ false) × (no_row (cache_in table.old) ≡ false) }
+    requires { GoodRows table.old rows × Allowed (cache_in table.old) × (get (cache_in table.old).rows address ≡ None) × (too_few_words (cache_in table.old) (length orders.old) ≡ false) × (bad_address address ≡ false) × (bad_size size ≡ false) × (no_row (cache_in table.old) ≡ false) }
     ensures did { Did (missed access address size (cache_in table.old)) (rest_in table.old) table.new 0 orders.old orders.new result.given }
     ensures named { (all_runs result.runs ≡ miss_reasons access address size (cache_in table.old)) × (result.change ≡ change_of (miss_changes access address size (cache_in table.old))) }
 {
@@ -144,7 +133,7 @@ fn hit_row(
 pub fn protect(
     table: &mut [u64],
     orders: &mut [u64],
-    found: Found,
+    found: Option<Found>,
     access: Access,
     address: u64,
     size: u64,
@@ -155,7 +144,7 @@ pub fn protect(
 {
     let rows = row_count(table);
     match found {
-        Found::Nothing => miss(table, orders, rows, access, address, size),
-        Found::At { place: _, row } => hit_row(table, orders, rows, row, access, address),
+        None => miss(table, orders, rows, access, address, size),
+        Some(at) => hit_row(table, orders, rows, at.row, access, address),
     }
 }

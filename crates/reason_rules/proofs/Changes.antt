@@ -1,11 +1,10 @@
 -- A request changes the maximum at most once, and names a change exactly if the maximum differs. Only a miss has two chances: a flash that
 -- rose restarts the counters, so its access is the first of 100 at least and ends no epoch.
-use Rattle.std.specs.Prelude.{if◌then◌else◌}
+use Rattle.std.specs.Prelude.{if◌then◌else◌, Option, None, Some}
 use Prim.Native.Nat.{ℕ, ◌+◌, ◌≤◌}
 use mathlib.Core.Path.{◌≡◌, refl, sym, ap, subst, ◌∙◌}
 use mathlib.Core.Logic.{◌↔◌}
 use mathlib.Core.Bool.{Bool, true, false, ◌&&◌}
-use mathlib.Core.Option.{Option, none, some}
 use mathlib.Core.List.{List, [], ◌∷◌, ◌++◌, append-nil}
 use native.Mathlib.Omega.{arith}
 use lib.Dec.{leb, ltb, eqb}
@@ -160,7 +159,7 @@ module _ (c : Cache) (lent : ℕ) (message : List ℕ) (k : Sound c) (long : 2 �
       let r : flash_change s c ≡ [] = if_false (ltb c.maximum n) _ [] h in
       rw r (subst (λ (i : ℕ). Differs i (count_access false w).cache.maximum (count_change false w)) q (count_differs false w kw)))
 
-  all_differ : (r : Request) → first_of (tests c lent message r) ≡ none → Differs c.maximum (effect c message r).cache.maximum (changes_of c r)
+  all_differ : (r : Request) → first_of (tests c lent message r) ≡ None → Differs c.maximum (effect c message r).cache.maximum (changes_of c r)
   unfolding effect changes_of
   all_differ (Insert a s) h = on (room_maximum s true (start (flashed s c)) (flash_sound s c k)) (flash_differs s c)
   all_differ (Protect x a s) h =
@@ -193,8 +192,8 @@ module _ (c : Cache) (call : Call) (lent : ℕ) (k : Allowed c) where
 
       go : (r : Option Refusal) → refusal_of_explain c call lent ≡ r
           → Differs c.maximum (judged r c (effect c call.message call.request)).cache.maximum (granted r (changes_of c call.request))
-      go none e = all_differ c call.lent call.message k.sound long call.request (explained_accepted c call lent e)
-      go (some r) e = same refl
+      go None e = all_differ c call.lent call.message k.sound long call.request (explained_accepted c call lent e)
+      go (Some r) e = same refl
 
   -- at most one change
   pub one_change : length (explain c call lent).changes ≤ 1

@@ -2,7 +2,8 @@
 use Prim.Native.Nat.{ℕ, ◌+◌, ◌*◌, ◌≤◌}
 use mathlib.Core.Path.{◌≡◌, refl, sym, ap, ap₂, subst, ◌∙◌}
 use mathlib.Core.Bool.{true, false}
-use mathlib.Core.Option.{Option, none, some, some-ne-none}
+use Rattle.std.proofs.lemmas.Option.{none-some}
+use Rattle.std.specs.Prelude.{Option, None, Some}
 use mathlib.Core.List.{List, [], ◌∷◌, ◌++◌, map}
 use native.Mathlib.Omega.{arith}
 use lib.Dec.{ltb, eqb}
@@ -56,18 +57,18 @@ module _ (s : Settings) (c : Cache) (range : s.smallest ≤ s.largest) where
       choose (λ (i : ℕ). (m : List Change) × Fixed s n m i) s.preset
       (λ h. split (eqb s.initial n)
       (λ e. let i = eqb-true s.initial n e in ([], subst (Fixed s n []) (sym i) (sets_same h i)))
-      (λ e. (changed cause.Settings bound.None, sets h (eqb-false s.initial n e))))
+      (λ e. (changed cause.Settings None, sets h (eqb-false s.initial n e))))
       (λ h. split (ltb s.largest n)
       (λ p. let i = ltb-true s.largest n p in
-      (changed cause.Settings bound.Largest, subst (Fixed s n (changed cause.Settings bound.Largest)) (omega arith) (brings_down h i)))
+      (changed cause.Settings (Some bound.Largest), subst (Fixed s n (changed cause.Settings (Some bound.Largest))) (omega arith) (brings_down h i)))
       (λ p. let i = ltb-false s.largest n p in
       split (ltb n s.smallest)
       (λ q. let j = ltb-true n s.smallest q in
-      (changed cause.Settings bound.Smallest, subst (Fixed s n (changed cause.Settings bound.Smallest)) (omega arith) (brings_up h j)))
+      (changed cause.Settings (Some bound.Smallest), subst (Fixed s n (changed cause.Settings (Some bound.Smallest))) (omega arith) (brings_up h j)))
       (λ q. let j = ltb-false n s.smallest q in ([], subst (Fixed s n []) (omega arith) (in_range h j i)))))
 
   -- a value that is the configured one, with its bound
-  named_change : {n : ℕ} {b : Bound} → n ≡ (configured s c).maximum → (n ≡ c.maximum → ⊥) → b ≡ settings_bound s c.maximum
+  named_change : {n : ℕ} {b : Option Bound} → n ≡ (configured s c).maximum → (n ≡ c.maximum → ⊥) → b ≡ settings_bound s c.maximum
       → changed cause.Settings b ≡ settings_change s c
   named_change e d h =
       ap (changed cause.Settings) h ∙ sym (if_false (eqb (configured s c).maximum c.maximum) [] _ (ne_eqb _ c.maximum (λ i. d (e ∙ i))))
@@ -76,17 +77,17 @@ module _ (s : Settings) (c : Cache) (range : s.smallest ≤ s.largest) where
   no_change e = sym (if_true (eqb (configured s c).maximum c.maximum) [] _ (eq-eqb _ c.maximum (sym e)))
 
   fixed_only : {m : List Change} {n : ℕ} → Fixed s c.maximum m n → (m ≡ settings_change s c) × (n ≡ (configured s c).maximum)
-  fixed_only (sets h d) = let e = sym (if_true s.preset s.initial _ h) in (named_change e d (sym (if_true s.preset bound.None _ h)), e)
+  fixed_only (sets h d) = let e = sym (if_true s.preset s.initial _ h) in (named_change e d (sym (if_true s.preset None _ h)), e)
   fixed_only (sets_same h d) = let e = sym d ∙ sym (if_true s.preset s.initial _ h) in (no_change e, e)
   fixed_only (brings_down h i) =
       let j : s.largest ≡ brought c.maximum s = omega arith in
       let e = j ∙ sym (if_false s.preset _ _ h) in
-      (named_change e (λ d. omega arith) (sym (if_false s.preset _ _ h ∙ if_true _ bound.Largest _ (lt-ltb s.largest c.maximum i))), e)
+      (named_change e (λ d. omega arith) (sym (if_false s.preset _ _ h ∙ if_true _ (Some bound.Largest) _ (lt-ltb s.largest c.maximum i))), e)
   fixed_only (brings_up h i) =
       let j : s.smallest ≡ brought c.maximum s = omega arith in
       let e = j ∙ sym (if_false s.preset _ _ h) in (
         named_change e (λ d. omega arith)
-            (sym (if_false s.preset _ _ h ∙ if_false _ _ _ (le-ltb s.largest c.maximum (omega arith)) ∙ if_true _ bound.Smallest _ (lt-ltb c.maximum s.smallest i))),
+            (sym (if_false s.preset _ _ h ∙ if_false _ _ _ (le-ltb s.largest c.maximum (omega arith)) ∙ if_true _ (Some bound.Smallest) _ (lt-ltb c.maximum s.smallest i))),
         e,
       )
   fixed_only (in_range h i k) =
@@ -117,7 +118,7 @@ module _ (a : ℕ) (c : Cache) (k : Sound c) where
 
 module _ (c : Cache) (lent : ℕ) (message : List ℕ) (k : Sound c) where
   -- the cache once a miss has loaded its entry
-  pub loaded_sound : (x : Access) (a s : ℕ) → first_of (tests c lent message (Protect x a s)) ≡ none → is_here c.rows a ≡ false
+  pub loaded_sound : (x : Access) (a s : ℕ) → first_of (tests c lent message (Protect x a s)) ≡ None → is_here c.rows a ≡ false
       → Sound (loaded x a s (make_room s true (start (flashed s c)))).cache
   unfolding tests
   loaded_sound x a s h p =
@@ -125,13 +126,13 @@ module _ (c : Cache) (lent : ℕ) (message : List ℕ) (k : Sound c) where
       let m = ready a s c k p (simp p at f.1.1.1.1.0) in
       sound_load x a s (make_room s true (start (flashed s c))).cache m.free m.absent m.sound
 
-  configured_range : (s : Settings) → first_of (tests c lent message (Configure s)) ≡ none → s.smallest ≤ s.largest
+  configured_range : (s : Settings) → first_of (tests c lent message (Configure s)) ≡ None → s.smallest ≤ s.largest
   unfolding tests
   configured_range s h =
       let f = failed (tests c lent message (Configure s)) h in
       (passed s (eqb-true (first_bad s false) 0 (not-false _ f.1.0))).range
 
-  takes : (r : Request) → first_of (tests c lent message r) ≡ none → Leads (Does c message r) (effect c message r)
+  takes : (r : Request) → first_of (tests c lent message r) ≡ None → Leads (Does c message r) (effect c message r)
   unfolding effect
   takes (Insert a s) h =
       let f = flash_takes s c in
@@ -162,7 +163,7 @@ module _ (c : Cache) (lent : ℕ) (message : List ℕ) (k : Sound c) where
       let q = roomed 0 false (start (configured s c)) (sound_same c (configured s c) refl refl k) in
       (q.0, f.0, configure f.1 q.1)
 
-  only : {r : Request} {l : List Reason} {m : List Change} {w : Work} → Does c message r l m w → first_of (tests c lent message r) ≡ none
+  only : {r : Request} {l : List Reason} {m : List Change} {w : Work} → Does c message r l m w → first_of (tests c lent message r) ≡ None
       → (l ≡ reasons_of c r) × (m ≡ changes_of c r) × (w ≡ effect c message r)
   unfolding effect reasons_of changes_of
   only (insert {a} {s} {d} {v} {l} f q) h =
@@ -237,12 +238,12 @@ pairs (configure f q) = from_start (room_gives q)
 -- ---- the course
 
 module _ (c : Cache) (call : Call) where
-  accepted_step : refusal_of c call ≡ none → judged none c (effect c call.message call.request) ≡ step c call
+  accepted_step : refusal_of c call ≡ None → judged None c (effect c call.message call.request) ≡ step c call
   unfolding step
   accepted_step e = rw e
 
-  accepted_course : Allowed c → refusal_of c call ≡ none
-      → Course c call (judged none c (effect c call.message call.request)) (reasons_of c call.request) (changes_of c call.request)
+  accepted_course : Allowed c → refusal_of c call ≡ None
+      → Course c call (judged None c (effect c call.message call.request)) (reasons_of c call.request) (changes_of c call.request)
   unfolding refusal_of
   accepted_course k e =
       let t = takes c call.lent call.message k.sound call.request e in
@@ -250,7 +251,7 @@ module _ (c : Cache) (call : Call) where
       rw (← o.0, ← o.1) (accepted e t.2)
 
   -- the step, with the reasons and changes that are named, takes the request's course
-  pub course : Allowed c → refusal_of c call ≡ none → Course c call (step c call) (reasons_of c call.request) (changes_of c call.request)
+  pub course : Allowed c → refusal_of c call ≡ None → Course c call (step c call) (reasons_of c call.request) (changes_of c call.request)
   course k e = rw (← accepted_step e) (accepted_course k e)
 
   -- every course is the step's
@@ -259,7 +260,7 @@ module _ (c : Cache) (call : Call) where
   unfolding refusal_of
   only_course k (accepted e d) =
       let o = only c call.lent call.message k.sound d e in
-      (ap (judged none c) o.2 ∙ accepted_step e, o.0, o.1)
+      (ap (judged None c) o.2 ∙ accepted_step e, o.0, o.1)
 
   -- a request has one course
   pub one_course : {o p : Outcome} {l k : List Reason} {m n : List Change} → Allowed c → Course c call o l m → Course c call p k n
@@ -269,7 +270,7 @@ module _ (c : Cache) (call : Call) where
   course_pairs : {o : Outcome} {l : List Reason} {m : List Change} → Course c call o l m → Paired o.orders l
   course_pairs (accepted e d) = pairs d
 
-  step_many : Allowed c → refusal_of c call ≡ none → length (step c call).orders ≡ length (reasons_of c call.request)
+  step_many : Allowed c → refusal_of c call ≡ None → length (step c call).orders ≡ length (reasons_of c call.request)
   step_many k e = paired_length (step c call).orders (reasons_of c call.request) (course_pairs (course k e))
 
   -- ---- what is explained
@@ -280,14 +281,14 @@ module _ (c : Cache) (call : Call) where
     unfolding step
     as_ever h = rw h
 
-    pub explained_accepted : refusal_of_explain c call lent ≡ none → refusal_of c call ≡ none
+    pub explained_accepted : refusal_of_explain c call lent ≡ None → refusal_of c call ≡ None
     explained_accepted e =
         split (too_few_reasons c call.request lent)
-        (λ h. absurd (some-ne-none refusal.OrderWords (sym (if_true (too_few_reasons c call.request lent) (some refusal.OrderWords) _ h) ∙ e)))
-        (λ h. sym (if_false (too_few_reasons c call.request lent) (some refusal.OrderWords) _ h) ∙ e)
+        (λ h. absurd (none-some refusal.OrderWords (sym (sym (if_true (too_few_reasons c call.request lent) (Some refusal.OrderWords) _ h) ∙ e))))
+        (λ h. sym (if_false (too_few_reasons c call.request lent) (Some refusal.OrderWords) _ h) ∙ e)
 
     -- a request that is not refused is explained by its course
-    pub explained_course : Allowed c → refusal_of_explain c call lent ≡ none
+    pub explained_course : Allowed c → refusal_of_explain c call lent ≡ None
         → Course c call (explain c call lent).outcome (explain c call lent).reasons (explain c call lent).changes
     explained_course k e =
         subst
@@ -300,8 +301,8 @@ module _ (c : Cache) (call : Call) where
       where
         go : (r : Option Refusal) → refusal_of_explain c call lent ≡ r
             → Paired (judged r c (effect c call.message call.request)).orders (granted r (reasons_of c call.request))
-        go none e = course_pairs (accepted_course k (explained_accepted e))
-        go (some r) e = tt
+        go None e = course_pairs (accepted_course k (explained_accepted e))
+        go (Some r) e = tt
 
     -- as many reasons as orders
     pub as_many : Allowed c → length (explain c call lent).outcome.orders ≡ length (explain c call lent).reasons
@@ -312,5 +313,5 @@ module _ (c : Cache) (call : Call) where
     reasons_fit k = go (refusal_of_explain c call lent) refl
       where
         go : (r : Option Refusal) → refusal_of_explain c call lent ≡ r → length (granted r (reasons_of c call.request)) ≤ 2 * length c.rows + 1
-        go none e = let i = step_orders c call k.sound in let j = step_many k (explained_accepted e) in omega arith
-        go (some r) e = omega arith
+        go None e = let i = step_orders c call k.sound in let j = step_many k (explained_accepted e) in omega arith
+        go (Some r) e = omega arith

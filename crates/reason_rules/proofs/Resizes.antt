@@ -1,5 +1,6 @@
 -- The flash, the age-out and the end of an epoch take one course, with the reasons and changes that are named. Each rule gives one value, the
 -- definition's; it is taken exactly where the definition takes it.
+use Rattle.std.specs.Prelude.{None, Option}
 use Prim.Native.Nat.{ℕ, ◌+◌, ◌<◌, max}
 use mathlib.Core.Path.{◌≡◌, refl, sym, ap, ap₂, subst, ◌∙◌}
 use mathlib.Core.Bool.{Bool, true, false, ◌&&◌, true≢false, false≢true}
@@ -10,7 +11,6 @@ use lib.Ieee.{Float, eq}
 use lib.ListN.{length, replicate}
 use borrow.Author.Tests.{ltb-true, ltb-false, lt-ltb, le-ltb, leb-true, leb-false, le-leb, lt-leb}
 use Rattle.fraction.specs.Fraction.{decimal, size_product, reserve_quotient, exceeds_share}
-use Rattle.settings.specs.declared.Cap.TheVariants as cap
 use Rattle.settings.specs.declared.Decrease.TheVariants as decrease
 use Rattle.settings.specs.declared.Decrease.{Decrease}
 use Rattle.settings.specs.declared.Flash.TheVariants as flash
@@ -45,15 +45,15 @@ use Rattle.reason_rules.proofs.Rooms.{Gives, gives_none, gives_append, gives_sam
 -- ---- the flash
 
 module _ (x : ℕ) (c : Cache) where
-  abbrev flash_bound : Flash → Bound
-  flash_bound f = rise_bound cap.None (flash_raw f x c) c.maximum c.settings.largest
+  abbrev flash_bound : Flash → Option Bound
+  flash_bound f = rise_bound None (flash_raw f x c) c.maximum c.settings.largest
 
   abbrev flash_value : Flash → ℕ
   flash_value f = flash_maximum f x c.maximum (held c) c.settings.largest
 
-  flash_one : {f : Flash} {b : Bound} {n : ℕ} → FlashGives x c f b n → (b ≡ flash_bound f) × (n ≡ flash_value f)
+  flash_one : {f : Flash} {b : Option Bound} {n : ℕ} → FlashGives x c f b n → (b ≡ flash_bound f) × (n ≡ flash_value f)
   flash_one (flash_gives {multiple} {threshold} h r) =
-      let o = rise_one r (rise_by (flash_raw (flash.On multiple threshold) x c) c.maximum c.settings.largest cap.None) in
+      let o = rise_one r (rise_by (flash_raw (flash.On multiple threshold) x c) c.maximum c.settings.largest None) in
       (o.0, o.1 ∙ sym (if_true (exceeds_share x threshold c.maximum) _ c.maximum h))
 
   flash_given : (f : Flash) → c.maximum < flash_value f → FlashGives x c f (flash_bound f) (flash_value f)
@@ -61,7 +61,7 @@ module _ (x : ℕ) (c : Cache) where
   flash_given (flash.On multiple threshold) h =
       choose (λ (n : ℕ). c.maximum < n → FlashGives x c (flash.On multiple threshold) (flash_bound (flash.On multiple threshold)) n)
       (exceeds_share x threshold c.maximum)
-      (λ p i. flash_gives p (rise_by (flash_raw (flash.On multiple threshold) x c) c.maximum c.settings.largest cap.None))
+      (λ p i. flash_gives p (rise_by (flash_raw (flash.On multiple threshold) x c) c.maximum c.settings.largest None))
       (λ p i. absurd (omega arith)) h
 
   pub flash_takes : (m : List Change) × Flashed x c m (flashed x c)
@@ -85,13 +85,13 @@ module _ (x : ℕ) (c : Cache) where
 -- ---- the increase
 
 module _ (rate : Float) (c : Cache) where
-  abbrev increase_bound : Increase → Bound
+  abbrev increase_bound : Increase → Option Bound
   increase_bound i = rise_bound c.settings.increment (increase_raw i c.maximum) c.maximum c.settings.largest
 
   abbrev increase_value : Increase → ℕ
   increase_value i = increased_by i c.settings.increment rate (is_full c) c.maximum c.settings.largest
 
-  increase_one : {i : Increase} {b : Bound} {n : ℕ} → IncreaseGives rate c i b n → (b ≡ increase_bound i) × (n ≡ increase_value i)
+  increase_one : {i : Increase} {b : Option Bound} {n : ℕ} → IncreaseGives rate c i b n → (b ≡ increase_bound i) × (n ≡ increase_value i)
   increase_one (increase_gives {lower} {multiplier} h f r) =
       let o = rise_one r (rise_by (size_product c.maximum multiplier) c.maximum c.settings.largest c.settings.increment) in
       (o.0, o.1 ∙ sym (if_true (is_below rate lower && is_full c) _ c.maximum (rw (h, f))))
@@ -120,7 +120,7 @@ module _ (x : Cause) (target : ℕ) (w : Work) where
   abbrev fallen : ℕ
   fallen = at_least w.cache.settings.decrement w.cache.maximum (max target w.cache.settings.smallest)
 
-  abbrev fallen_by : Bound
+  abbrev fallen_by : Option Bound
   fallen_by = fall_bound w.cache.settings.decrement target w.cache.maximum w.cache.settings.smallest
 
   falls : FallGives target w.cache fallen_by fallen

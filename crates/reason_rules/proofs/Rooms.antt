@@ -4,7 +4,8 @@ use Prim.Native.Nat.{ℕ, ◌+◌, ◌-◌, ◌*◌, ◌≤◌}
 use mathlib.Core.Path.{◌≡◌, refl, sym, ap, ap₂, subst, ◌∙◌}
 use mathlib.Core.Logic.{◌⊎◌, inl, inr}
 use mathlib.Core.Bool.{Bool, true, false, not, ◌&&◌, ◌||◌, true≢false}
-use mathlib.Core.Option.{Option, none, some, map, some-injective, none-ne-some, some-ne-none}
+use Rattle.std.proofs.lemmas.Option.{same_Some, none-some}
+use Rattle.std.specs.Prelude.{Option, None, Some, option_map}
 use mathlib.Core.List.{List, [], ◌∷◌, ◌++◌, append-nil, append_assoc}
 use native.Mathlib.Omega.{arith}
 use lib.ListN.{length, replicate, length-append}
@@ -43,11 +44,11 @@ while_one (loops.met h) (loops.none_left p n) = refl
 while_one {test} (loops.met {w} h) (loops.again p n k) = either (test w) p h
 while_one (loops.none_left h n) (loops.met p) = refl
 while_one (loops.none_left h n) (loops.none_left p q) = refl
-while_one (loops.none_left h n) (loops.again {u = u} p q k) = absurd (some-ne-none u (sym q ∙ n))
+while_one (loops.none_left h n) (loops.again {u = u} p q k) = absurd (none-some u (sym (sym q ∙ n)))
 while_one {test} (loops.again {w} h n k) (loops.met p) = either (test w) h p
-while_one (loops.again {u = u} h n k) (loops.none_left p q) = absurd (some-ne-none u (sym n ∙ q))
+while_one (loops.again {u = u} h n k) (loops.none_left p q) = absurd (none-some u (sym (sym n ∙ q)))
 while_one {test} {turn} {z = z} (loops.again {u = u} h n k) (loops.again {u = y} p q l) =
-    while_one k (subst (λ (i : Work). loops.While test turn i z) (some-injective y u (sym q ∙ n)) l)
+    while_one k (subst (λ (i : Work). loops.While test turn i z) (same_Some y u (sym q ∙ n)) l)
 
 -- ---- the steps are document 01's loops, each turn with its reason
 
@@ -133,27 +134,27 @@ because_none r w = let e : length w.orders - length w.orders ≡ 0 = omega arith
 
 module _ {w u : Work} {r : Reason} where
   near_gives : (k : Kind) (size : ℕ → ℕ) (act : ℕ → Work) → names r k ≡ true → ((a : ℕ) → (act a).orders ≡ give k a (size a) w.orders)
-      → (o : Option ℕ) → map act o ≡ some u → Gives w (r ∷ []) u
-  near_gives k size act n g none h = absurd (none-ne-some u h)
-  near_gives k size act n g (some a) h = subst (Gives w (r ∷ [])) (some-injective (act a) u h) (gives_order k a (size a) n (g a))
+      → (o : Option ℕ) → option_map act o ≡ Some u → Gives w (r ∷ []) u
+  near_gives k size act n g None h = absurd (none-some u h)
+  near_gives k size act n g (Some a) h = subst (Gives w (r ∷ [])) (same_Some (act a) u h) (gives_order k a (size a) n (g a))
 
-  dirty_gives : names r Kind.Write ≡ true → loops.dirty_turn w ≡ some u → Gives w (r ∷ []) u
+  dirty_gives : names r Kind.Write ≡ true → loops.dirty_turn w ≡ Some u → Gives w (r ∷ []) u
   dirty_gives n h =
       near_gives Kind.Write (size_at w.cache.rows) (λ a. write_in_place a w) n (λ a. refl) (nearest (dirty_at w.cache.rows) w.cache.recency) h
 
   module _ (p : names r Kind.Write ≡ true) (q : names r Kind.Evict ≡ true) where
-    tail_gives : (l : List ℕ) → look_at_tail l w ≡ some u → Gives w (r ∷ []) u
-    tail_gives [] h = absurd (none-ne-some u h)
+    tail_gives : (l : List ℕ) → look_at_tail l w ≡ Some u → Gives w (r ∷ []) u
+    tail_gives [] h = absurd (none-some u h)
     tail_gives (a ∷ l) h =
-        subst (Gives w (r ∷ [])) (some-injective _ u h)
+        subst (Gives w (r ∷ [])) (same_Some _ u h)
         (choose (Gives w (r ∷ [])) (dirty_at w.cache.rows a)
         (λ d. gives_order Kind.Write a (size_at w.cache.rows a) p refl) (λ d. gives_order Kind.Evict a (size_at w.cache.rows a) q refl))
 
-    clean_gives : clean_turn w ≡ some u → Gives w (r ∷ []) u
+    clean_gives : clean_turn w ≡ Some u → Gives w (r ∷ []) u
     clean_gives h =
         near_gives Kind.Evict (size_at w.cache.rows) (λ a. evict a w) q (λ a. refl) (nearest (clean_at w.cache.rows) w.cache.recency) h
 
-    turn_gives : (m : Mode) → loops.turn_in m w ≡ some u → Gives w (r ∷ []) u
+    turn_gives : (m : Mode) → loops.turn_in m w ≡ Some u → Gives w (r ∷ []) u
     turn_gives Alone h = tail_gives w.cache.recency h
     turn_gives Lead h = clean_gives h
     turn_gives Standby h = clean_gives h
@@ -211,10 +212,10 @@ module _ (w : Work) (k : Sound w.cache) where
     });
   }
 
-  turned_tail : (l : List ℕ) (u : Work) → w.cache.recency ≡ l → look_at_tail l w ≡ some u → Turned w u
-  turned_tail [] u e h = absurd (none-ne-some u h)
+  turned_tail : (l : List ℕ) (u : Work) → w.cache.recency ≡ l → look_at_tail l w ≡ Some u → Turned w u
+  turned_tail [] u e h = absurd (none-some u h)
   turned_tail (a ∷ l) u e h =
-      subst (Turned w) (some-injective _ u h)
+      subst (Turned w) (same_Some _ u h)
       (choose (Turned w) (dirty_at w.cache.rows a)
       (λ d. record {
         sound = sound_write a (l ++ a ∷ []) w.cache (subst (SameList (l ++ a ∷ [])) (sym e) (turned a l)) k;
@@ -222,15 +223,15 @@ module _ (w : Work) (k : Sound w.cache) where
       })
       (λ d. turned_evict a (ap (elem a) e ∙ elem_first a l)))
 
-  turned_clean : (u : Work) → clean_turn w ≡ some u → Turned w u
+  turned_clean : (u : Work) → clean_turn w ≡ Some u → Turned w u
   turned_clean u h = go (nearest (clean_at w.cache.rows) w.cache.recency) refl h
     where
-      go : (o : Option ℕ) → nearest (clean_at w.cache.rows) w.cache.recency ≡ o → map (λ a. evict a w) o ≡ some u → Turned w u
-      go none q e = absurd (none-ne-some u e)
-      go (some a) q e =
-          subst (Turned w) (some-injective (evict a w) u e) (turned_evict a (nearest_in (clean_at w.cache.rows) a w.cache.recency q).0)
+      go : (o : Option ℕ) → nearest (clean_at w.cache.rows) w.cache.recency ≡ o → option_map (λ a. evict a w) o ≡ Some u → Turned w u
+      go None q e = absurd (none-some u e)
+      go (Some a) q e =
+          subst (Turned w) (same_Some (evict a w) u e) (turned_evict a (nearest_in (clean_at w.cache.rows) a w.cache.recency q).0)
 
-  turned_first : (m : Mode) (u : Work) → loops.turn_in m w ≡ some u → Turned w u
+  turned_first : (m : Mode) (u : Work) → loops.turn_in m w ≡ Some u → Turned w u
   turned_first Alone u h = turned_tail w.cache.recency u refl h
   turned_first Lead u h = turned_clean u h
   turned_first Standby u h = turned_clean u h

@@ -1,10 +1,8 @@
 -- What the names mean: the course of a request in document 01's words, its phases in order. Each constructor says when its reason, or its
 -- cause and bound, may be named, so that no other name fits.
-use Rattle.std.specs.Prelude.{ℕ, ◌+◌, ◌-◌, ◌≤◌, ◌<◌, ◌≡◌, Bool, true, false, not, List, [], ◌∷◌, ◌++◌, map, ltb, Float}
-use Rattle.std.proofs.Math.Option.{none, some}
+use Rattle.std.specs.Prelude.{ℕ, ◌+◌, ◌-◌, ◌≤◌, ◌<◌, ◌≡◌, Bool, true, false, not, List, [], ◌∷◌, ◌++◌, map, ltb, Float, None, Some, Option}
 use Rattle.std.specs.Float.Ieee.{eq}
 use Rattle.fraction.specs.Fraction.{decimal, size_product, reserve_quotient, exceeds_share}
-use Rattle.settings.specs.declared.Cap.TheVariants as cap
 use Rattle.settings.specs.declared.Decrease.{Decrease}
 use Rattle.settings.specs.declared.Decrease.TheVariants as decrease
 use Rattle.settings.specs.declared.Flash.{Flash}
@@ -47,18 +45,18 @@ use Rattle.reason_rules.specs.Reasons.{changed, rate_of}
 -- both press, the reason is bytes.
 pub data StepOne (m : Mode) (x : ℕ) (row : Bool) : Work → List Reason → Work → Type 0 where
   enough : {w : Work} → lacking x row w.cache ≡ false → StepOne m x row w [] w
-  nothing : {w : Work} → lacking x row w.cache ≡ true → turn_in m w ≡ none → StepOne m x row w [] w
-  bytes : {w u v : Work} {l : List Reason} → overfull x w.cache ≡ true → turn_in m w ≡ some u
+  nothing : {w : Work} → lacking x row w.cache ≡ true → turn_in m w ≡ None → StepOne m x row w [] w
+  bytes : {w u v : Work} {l : List Reason} → overfull x w.cache ≡ true → turn_in m w ≡ Some u
       → StepOne m x row u l v → StepOne m x row w (reason.Bytes ∷ l) v
-  rows : {w u v : Work} {l : List Reason} → overfull x w.cache ≡ false → row ≡ true → has_free w.cache.rows ≡ false → turn_in m w ≡ some u
+  rows : {w u v : Work} {l : List Reason} → overfull x w.cache ≡ false → row ≡ true → has_free w.cache.rows ≡ false → turn_in m w ≡ Some u
       → StepOne m x row u l v → StepOne m x row w (reason.Rows ∷ l) v
 
 -- Step 2, and sync under its own name: while bytes of the clean share are missing, the dirty entry nearest the tail is written and keeps its
 -- place.
 pub data StepTwo (r : Reason) (x : ℕ) : Work → List Reason → Work → Type 0 where
   met : {w : Work} → ltb 0 (share_missing x w.cache) ≡ false → StepTwo r x w [] w
-  none_left : {w : Work} → ltb 0 (share_missing x w.cache) ≡ true → dirty_turn w ≡ none → StepTwo r x w [] w
-  writes : {w u v : Work} {l : List Reason} → ltb 0 (share_missing x w.cache) ≡ true → dirty_turn w ≡ some u
+  none_left : {w : Work} → ltb 0 (share_missing x w.cache) ≡ true → dirty_turn w ≡ None → StepTwo r x w [] w
+  writes : {w u v : Work} {l : List Reason} → ltb 0 (share_missing x w.cache) ≡ true → dirty_turn w ≡ Some u
       → StepTwo r x u l v → StepTwo r x w (r ∷ l) v
 
 -- With evictions off: no effect. Else it is noted whether held plus incoming exceeds the maximum; then step 1, and alone step 2.
@@ -73,16 +71,16 @@ pub data Roomed (x : ℕ) (row : Bool) : Work → List Reason → Work → Type 
 
 -- The value that a flash of x bytes gives, and its bound, if x exceeds threshold times maximum: the maximum rises by the whole part of x
 -- times multiple, less free space, never above maximum size.
-pub data FlashGives (x : ℕ) (c : Cache) : Flash → Bound → ℕ → Type 0 where
-  flash_gives : {multiple threshold : Float} {b : Bound} {n : ℕ} → exceeds_share x threshold c.maximum ≡ true
-      → Rise (c.maximum + (size_product x multiple - free_space c.maximum (held c))) (above cap.None c.maximum c.settings.largest) b n
+pub data FlashGives (x : ℕ) (c : Cache) : Flash → Option Bound → ℕ → Type 0 where
+  flash_gives : {multiple threshold : Float} {b : Option Bound} {n : ℕ} → exceeds_share x threshold c.maximum ≡ true
+      → Rise (c.maximum + (size_product x multiple - free_space c.maximum (held c))) (above None c.maximum c.settings.largest) b n
       → FlashGives x c (flash.On multiple threshold) b n
 
 -- Never downward. If it rose, counters restart.
 pub data Flashed (x : ℕ) (c : Cache) : List Change → Cache → Type 0 where
-  flashes : {b : Bound} {n : ℕ} → FlashGives x c c.settings.flash b n → c.maximum < n
+  flashes : {b : Option Bound} {n : ℕ} → FlashGives x c c.settings.flash b n → c.maximum < n
       → Flashed x c (changed cause.Flash b) (restart (with_maximum n c))
-  no_flash : ((b : Bound) (n : ℕ) → FlashGives x c c.settings.flash b n → n ≤ c.maximum) → Flashed x c [] c
+  no_flash : ((b : Option Bound) (n : ℕ) → FlashGives x c c.settings.flash b n → n ≤ c.maximum) → Flashed x c [] c
 
 -- ---- the end of an epoch
 
@@ -92,23 +90,23 @@ set_to n w = record { cache = with_maximum n w.cache; orders = w.orders }
 
 -- The value that step 2 gives, and its bound, if the rate is below lower and the cache full: maximum times multiplier, not above maximum size
 -- or maximum plus cap.
-pub data IncreaseGives (rate : Float) (c : Cache) : Increase → Bound → ℕ → Type 0 where
-  increase_gives : {lower multiplier : Float} {b : Bound} {n : ℕ} → is_below rate lower ≡ true → is_full c ≡ true
+pub data IncreaseGives (rate : Float) (c : Cache) : Increase → Option Bound → ℕ → Type 0 where
+  increase_gives : {lower multiplier : Float} {b : Option Bound} {n : ℕ} → is_below rate lower ≡ true → is_full c ≡ true
       → Rise (size_product c.maximum multiplier) (above c.settings.increment c.maximum c.settings.largest) b n
       → IncreaseGives rate c (increase.Threshold lower multiplier) b n
 
 -- The maximum did not rise.
 abbrev pub NoRise : Float → Cache → Type 0
-NoRise rate c = (b : Bound) (n : ℕ) → IncreaseGives rate c c.settings.increase b n → n ≤ c.maximum
+NoRise rate c = (b : Option Bound) (n : ℕ) → IncreaseGives rate c c.settings.increase b n → n ≤ c.maximum
 
 -- The value that a target gives, and its bound: it is raised to minimum size and to maximum less cap.
-abbrev pub FallGives : ℕ → Cache → Bound → ℕ → Type 0
+abbrev pub FallGives : ℕ → Cache → Option Bound → ℕ → Type 0
 FallGives target c b n = Fall target (below c.settings.decrement c.maximum c.settings.smallest) b n
 
 -- Taken if still below the maximum.
 pub data Lowered (x : Cause) (target : ℕ) (w : Work) : List Change → Work → Type 0 where
-  lowers : {b : Bound} {n : ℕ} → FallGives target w.cache b n → n < w.cache.maximum → Lowered x target w (changed x b) (set_to n w)
-  no_fall : ((b : Bound) (n : ℕ) → FallGives target w.cache b n → w.cache.maximum ≤ n) → Lowered x target w [] w
+  lowers : {b : Option Bound} {n : ℕ} → FallGives target w.cache b n → n < w.cache.maximum → Lowered x target w (changed x b) (set_to n w)
+  no_fall : ((b : Option Bound) (n : ℕ) → FallGives target w.cache b n → w.cache.maximum ≤ n) → Lowered x target w [] w
 
 -- From tail to head, entries with idle count at least the epochs are evicted; dirty ones are written first if alone, else kept.
 pub data AgeWalk (epochs : ℕ) : List ℕ → Work → List Reason → Work → Type 0 where
@@ -140,7 +138,7 @@ pub data AgesOut (rate : Float) : Decrease → ℕ → Float → Type 0 where
 
 -- Steps 2 and 3: the increase, and if the maximum did not rise, the decrease.
 pub data Resized (rate : Float) : Work → List Reason → List Change → Work → Type 0 where
-  increases : {w : Work} {b : Bound} {n : ℕ} → IncreaseGives rate w.cache w.cache.settings.increase b n → w.cache.maximum < n
+  increases : {w : Work} {b : Option Bound} {n : ℕ} → IncreaseGives rate w.cache w.cache.settings.increase b n → w.cache.maximum < n
       → Resized rate w [] (changed cause.Increase b) (set_to n w)
   rests : {w : Work} → NoRise rate w.cache → Rests rate w.cache.settings.decrease → Resized rate w [] [] w
   multiplies : {w v : Work} {m : List Change} {multiplier : Float} → NoRise rate w.cache → Multiplies rate w.cache.settings.decrease multiplier
@@ -166,10 +164,10 @@ pub data Counted (hit : Bool) : Work → List Reason → List Change → Work �
 
 -- The maximum that settings give, where n is the old one: with the initial size it is set, without it brought into the new range.
 pub data Fixed (s : Settings) (n : ℕ) : List Change → ℕ → Type 0 where
-  sets : s.preset ≡ true → (s.initial ≡ n → ⊥) → Fixed s n (changed cause.Settings bound.None) s.initial
+  sets : s.preset ≡ true → (s.initial ≡ n → ⊥) → Fixed s n (changed cause.Settings None) s.initial
   sets_same : s.preset ≡ true → s.initial ≡ n → Fixed s n [] n
-  brings_down : s.preset ≡ false → s.largest < n → Fixed s n (changed cause.Settings bound.Largest) s.largest
-  brings_up : s.preset ≡ false → n < s.smallest → Fixed s n (changed cause.Settings bound.Smallest) s.smallest
+  brings_down : s.preset ≡ false → s.largest < n → Fixed s n (changed cause.Settings (Some bound.Largest)) s.largest
+  brings_up : s.preset ≡ false → n < s.smallest → Fixed s n (changed cause.Settings (Some bound.Smallest)) s.smallest
   in_range : s.preset ≡ false → s.smallest ≤ n → n ≤ s.largest → Fixed s n [] n
 
 -- ---- by request
@@ -214,8 +212,8 @@ pub data Does (c : Cache) (message : List ℕ) : Request → List Reason → Lis
 
 -- The course of a request that is not refused: its outcome, the reasons of its orders, and the changes of the maximum.
 pub data Course (c : Cache) (call : Call) : Outcome → List Reason → List Change → Type 0 where
-  accepted : {w : Work} {l : List Reason} {m : List Change} → refusal_of c call ≡ none → Does c call.message call.request l m w
-      → Course c call (judged none c w) l m
+  accepted : {w : Work} {l : List Reason} {m : List Change} → refusal_of c call ≡ None → Does c call.message call.request l m w
+      → Course c call (judged None c w) l m
 
 -- ---- each order with its reason
 

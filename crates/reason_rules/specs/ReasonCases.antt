@@ -1,8 +1,7 @@
 -- Worked cases with their reasons: each a setup, requests, and the numbers of the answers, reasons and changes that they must give.
-use Rattle.std.specs.Prelude.{ℕ, Bool, true, false, List, [], ◌∷◌, ◌++◌, map}
+use Rattle.std.specs.Prelude.{ℕ, Bool, true, false, List, [], ◌∷◌, ◌++◌, map, None, Some}
 use Rattle.fraction.specs.Fraction.{decimal}
-use Rattle.settings.specs.declared.Cap.{Cap}
-use Rattle.settings.specs.declared.Cap.TheVariants as cap
+use Rattle.settings.specs.Types.{Cap}
 use Rattle.settings.specs.declared.Decrease.TheVariants as decrease
 use Rattle.settings.specs.declared.Flash.TheVariants as flash
 use Rattle.settings.specs.declared.Increase.TheVariants as increase
@@ -16,7 +15,6 @@ use Rattle.rules.specs.Cases.{Setup, opened, later, cache_of, ask, taking, small
 use Rattle.rules.specs.Limits.{all_ones, default_threshold}
 use Rattle.rules.specs.Refusals.{Call}
 use Rattle.reason_rules.specs.declared.Change.{Change}
-use Rattle.reason_rules.specs.declared.Change.TheVariants as change
 use Rattle.reason_rules.specs.declared.Reason.{Reason}
 use Rattle.reason_rules.specs.Bounds.{bound_number}
 use Rattle.reason_rules.specs.Reasons.{reason_number, cause_number, explain}
@@ -43,8 +41,7 @@ pub record ReasonCase : Type 0 where
   pub tells : Told
 
 abbrev pub why_of : Change → Why
-why_of change.Same = record { cause = 0; bound = 0 }
-why_of (change.To x b) = record { cause = cause_number x; bound = bound_number b }
+why_of x = record { cause = cause_number x.cause; bound = bound_number x.bound }
 
 -- Requests one after the other, with the answers, reasons and changes so far.
 unfoldable pub tell : ℕ → Cache → List Call → List ℕ → List Reason → List Change → Told
@@ -107,12 +104,12 @@ doubling largest most = last_access 0 (alone (sized true 4096 1024 largest (risi
 -- 4,096 times 0.5, with minimum size and a cap.
 abbrev pub halving : ℕ → Cap → Setup
 halving smallest least =
-    last_access 99 (alone (sized true 4096 smallest 16384 (small_of (decimal 0 1) increase.Off cap.None flash.Off falling.decrease least)))
+    last_access 99 (alone (sized true 4096 smallest 16384 (small_of (decimal 0 1) increase.Off None flash.Off falling.decrease least)))
 
 -- An increase at lower rate 0.9 within a cap, and age-out with reserve 0.25.
 abbrev pub rising_or_ageing : Cap → Setup
 rising_or_ageing most =
-    last_access 0 (alone (small_of (decimal 0 1) (increase.Threshold (decimal 9 10) (decimal 2 1)) most flash.Off (decrease.AgeOut 10 (decimal 25 100)) cap.None))
+    last_access 0 (alone (small_of (decimal 0 1) (increase.Threshold (decimal 9 10) (decimal 2 1)) most flash.Off (decrease.AgeOut 10 (decimal 25 100)) None))
 
 -- Flash 1.0/0.25; by threshold with upper rate 0.9 and multiplier 0.5.
 abbrev pub flashing_and_falling : Setup
@@ -120,7 +117,7 @@ flashing_and_falling = last_access 99 (alone (small_with increase.Off (flash.On 
 
 -- Clean fraction 0.5; by threshold with upper rate 0.9 and multiplier 0.5.
 abbrev pub sharing_and_falling : Setup
-sharing_and_falling = last_access 99 (alone (small_of (decimal 5 10) increase.Off cap.None flash.Off falling.decrease cap.None))
+sharing_and_falling = last_access 99 (alone (small_of (decimal 5 10) increase.Off None flash.Off falling.decrease None))
 
 -- Two clean entries idle for an epoch, 100 of a size, and after further requests one held for writing at another size; one access before the
 -- epoch's end.
@@ -208,41 +205,41 @@ refused_cases =
 abbrev pub change_cases : List ReasonCase
 change_cases =
     -- no cap
-    changes (doubling 16384 cap.None) (insert_and_hit 4096) [] 1 0 8192
+    changes (doubling 16384 None) (insert_and_hit 4096) [] 1 0 8192
     -- a bound that is met exactly does not cut
-    ∷ changes (doubling 16384 (cap.Upto 4096)) (insert_and_hit 4096) [] 1 0 8192
-    ∷ changes (doubling 8192 cap.None) (insert_and_hit 4096) [] 1 0 8192
-    ∷ changes (doubling 16384 (cap.Upto 4095)) (insert_and_hit 4096) [] 1 9 8191
-    ∷ changes (doubling 8191 cap.None) (insert_and_hit 4096) [] 1 5 8191
+    ∷ changes (doubling 16384 (Some 4096)) (insert_and_hit 4096) [] 1 0 8192
+    ∷ changes (doubling 8192 None) (insert_and_hit 4096) [] 1 0 8192
+    ∷ changes (doubling 16384 (Some 4095)) (insert_and_hit 4096) [] 1 9 8191
+    ∷ changes (doubling 8191 None) (insert_and_hit 4096) [] 1 5 8191
     -- a tie: the lower field
-    ∷ changes (doubling 8191 (cap.Upto 4095)) (insert_and_hit 4096) [] 1 5 8191
+    ∷ changes (doubling 8191 (Some 4095)) (insert_and_hit 4096) [] 1 5 8191
     -- both cut, and one holds
-    ∷ changes (doubling 8000 (cap.Upto 4095)) (insert_and_hit 4096) [] 1 5 8000
-    ∷ changes (doubling 8000 (cap.Upto 100)) (insert_and_hit 4096) [] 1 9 4196
+    ∷ changes (doubling 8000 (Some 4095)) (insert_and_hit 4096) [] 1 5 8000
+    ∷ changes (doubling 8000 (Some 100)) (insert_and_hit 4096) [] 1 9 4196
     -- cut to nothing: no change, and then the decrease may be the change
-    ∷ orders (doubling 16384 (cap.Upto 0)) (insert_and_hit 4096) []
-    ∷ changes (rising_or_ageing (cap.Upto 0)) (three_inserts 500 ++ ask (Protect Reading 300 500) ∷ []) (1 ∷ 1 ∷ 1 ∷ []) 4 0 2000
-    ∷ changes (rising_or_ageing cap.None) (three_inserts 500 ++ ask (Protect Reading 300 500) ∷ []) (1 ∷ 1 ∷ 1 ∷ []) 1 0 8192
+    ∷ orders (doubling 16384 (Some 0)) (insert_and_hit 4096) []
+    ∷ changes (rising_or_ageing (Some 0)) (three_inserts 500 ++ ask (Protect Reading 300 500) ∷ []) (1 ∷ 1 ∷ 1 ∷ []) 4 0 2000
+    ∷ changes (rising_or_ageing None) (three_inserts 500 ++ ask (Protect Reading 300 500) ∷ []) (1 ∷ 1 ∷ 1 ∷ []) 1 0 8192
     -- falls by threshold: none, the cap, a tie, minimum size met exactly, a cap above the maximum
-    ∷ changes (halving 1024 cap.None) (insert_and_hit 1000) [] 3 0 2048
-    ∷ changes (halving 1024 (cap.Upto 1000)) (insert_and_hit 1000) [] 3 12 3096
-    ∷ changes (halving 3096 (cap.Upto 1000)) (insert_and_hit 1000) [] 3 6 3096
-    ∷ changes (halving 3000 (cap.Upto 1000)) (insert_and_hit 1000) [] 3 12 3096
-    ∷ changes (halving 2048 cap.None) (insert_and_hit 1000) [] 3 0 2048
-    ∷ changes (halving 1024 (cap.Upto 5000)) (insert_and_hit 1000) [] 3 0 2048
+    ∷ changes (halving 1024 None) (insert_and_hit 1000) [] 3 0 2048
+    ∷ changes (halving 1024 (Some 1000)) (insert_and_hit 1000) [] 3 12 3096
+    ∷ changes (halving 3096 (Some 1000)) (insert_and_hit 1000) [] 3 6 3096
+    ∷ changes (halving 3000 (Some 1000)) (insert_and_hit 1000) [] 3 12 3096
+    ∷ changes (halving 2048 None) (insert_and_hit 1000) [] 3 0 2048
+    ∷ changes (halving 1024 (Some 5000)) (insert_and_hit 1000) [] 3 0 2048
     -- a fall, and room by bytes after it; then clean share
-    ∷ changes (halving 1024 cap.None) (ask (Insert 200 3000) ∷ insert_and_hit 50) (1 ∷ 1 ∷ []) 3 0 2048
+    ∷ changes (halving 1024 None) (ask (Insert 200 3000) ∷ insert_and_hit 50) (1 ∷ 1 ∷ []) 3 0 2048
     ∷ changes sharing_and_falling
     (ask (Insert 100 500) ∷ ask (Insert 200 600) ∷ ask (Insert 300 900) ∷ ask (Insert 400 100) ∷ ask (Protect Reading 400 100) ∷ [])
     (3 ∷ 1 ∷ 3 ∷ []) 3 0 2048
     -- age-out, with threshold too; P7's 3,072 gives no change
-    ∷ changes (last_access 99 (alone (ageing cap.None))) (insert_and_hit 3000) [] 4 0 4000
+    ∷ changes (last_access 99 (alone (ageing None))) (insert_and_hit 3000) [] 4 0 4000
     ∷ changes (last_access 90 (alone ageing_above)) (insert_and_hit 3000) [] 4 0 4000
-    ∷ orders (last_access 99 (alone (ageing cap.None))) (insert_and_hit 3072) []
+    ∷ orders (last_access 99 (alone (ageing None))) (insert_and_hit 3072) []
     -- its bounds: minimum size, the cap, a tie
-    ∷ changes (last_access 99 (alone (ageing cap.None))) (insert_and_hit 300) [] 4 6 1024
-    ∷ changes (last_access 99 (alone (ageing (cap.Upto 50)))) (insert_and_hit 3000) [] 4 12 4046
-    ∷ changes (last_access 99 (alone (ageing (cap.Upto 3072)))) (insert_and_hit 300) [] 4 6 1024
+    ∷ changes (last_access 99 (alone (ageing None))) (insert_and_hit 300) [] 4 6 1024
+    ∷ changes (last_access 99 (alone (ageing (Some 50)))) (insert_and_hit 3000) [] 4 12 4046
+    ∷ changes (last_access 99 (alone (ageing (Some 3072)))) (insert_and_hit 300) [] 4 6 1024
     -- P8
     ∷ changes (alone (flashing (decimal 1 1))) (ask (Insert 100 4000) ∷ ask (Insert 200 1025) ∷ []) [] 2 0 5025
     -- a flash to maximum size exactly, and one that it cuts

@@ -1,9 +1,7 @@
 -- What is named: the reason of each order, and of each change of the maximum its cause and bound, by the phases of a request.
-use Rattle.std.specs.Prelude.{ℕ, ◌+◌, ◌-◌, ◌*◌, Bool, true, false, ◌&&◌, List, [], ◌∷◌, ◌++◌, map, leb, ltb, eqb, Float, length, replicate, if◌then◌else◌}
-use Rattle.std.proofs.Math.Option.{Option, none, some}
+use Rattle.std.specs.Prelude.{ℕ, ◌+◌, ◌-◌, ◌*◌, Bool, true, false, ◌&&◌, List, [], ◌∷◌, ◌++◌, map, leb, ltb, eqb, Float, length, replicate, if◌then◌else◌, Option, None, Some}
 use Rattle.std.specs.Float.Ieee.{eq}
 use Rattle.fraction.specs.Fraction.{decimal, size_product, hit_rate, reserve_quotient}
-use Rattle.settings.specs.declared.Cap.TheVariants as cap
 use Rattle.settings.specs.declared.Decrease.TheVariants as decrease
 use Rattle.settings.specs.declared.Decrease.{Decrease}
 use Rattle.settings.specs.declared.Flash.TheVariants as flash
@@ -27,7 +25,6 @@ use Rattle.rules.specs.Rows.{get, passes, is_here, dirty_rising}
 use Rattle.reason_rules.specs.declared.Bound.{Bound}
 use Rattle.reason_rules.specs.declared.Cause.TheVariants as cause
 use Rattle.reason_rules.specs.declared.Cause.{Cause}
-use Rattle.reason_rules.specs.declared.Change.TheVariants as change
 use Rattle.reason_rules.specs.declared.Change.{Change}
 use Rattle.reason_rules.specs.declared.Reason.TheVariants as reason
 use Rattle.reason_rules.specs.declared.Reason.{Reason}
@@ -108,8 +105,8 @@ reasons_of c (Configure s) = room_reasons 0 false (start (configured s c))
 
 -- ---- changes of the maximum
 
-abbrev pub changed : Cause → Bound → List Change
-changed x b = change.To x b ∷ []
+abbrev pub changed : Cause → Option Bound → List Change
+changed x b = record { cause = x; bound = b } ∷ []
 
 -- The flash's own value, and the increase's.
 abbrev pub flash_raw : Flash → ℕ → Cache → ℕ
@@ -123,7 +120,7 @@ increase_raw (increase.Threshold lower multiplier) maximum = size_product maximu
 abbrev pub flash_change : ℕ → Cache → List Change
 flash_change x c =
     if ltb c.maximum (flashed_to x c)
-    then changed cause.Flash (rise_bound cap.None (flash_raw c.settings.flash x c) c.maximum c.settings.largest)
+    then changed cause.Flash (rise_bound None (flash_raw c.settings.flash x c) c.maximum c.settings.largest)
     else []
 
 abbrev pub fall_change : Cause → ℕ → Cache → List Change
@@ -188,12 +185,12 @@ abbrev pub too_few_reasons : Cache → Request → ℕ → Bool
 too_few_reasons c r lent = can_order r && ltb lent (2 * length c.rows + 1)
 
 abbrev pub refusal_of_explain : Cache → Call → ℕ → Option Refusal
-refusal_of_explain c call lent = if too_few_reasons c call.request lent then some refusal.OrderWords else refusal_of c call
+refusal_of_explain c call lent = if too_few_reasons c call.request lent then Some refusal.OrderWords else refusal_of c call
 
 -- A refused request has no reasons and no changes.
 abbrev pub granted : {A : Type 0} → Option Refusal → List A → List A
-granted none l = l
-granted (some r) l = []
+granted None l = l
+granted (Some r) l = []
 
 -- A request done as ever, and explained.
 abbrev pub explain : Cache → Call → ℕ → Explained

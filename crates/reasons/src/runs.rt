@@ -5,7 +5,7 @@ ghost use Rattle.reasons.specs.Runs.{room_runs, all_runs};
 
 use reason_rules::{Change, Reason};
 
-// The orders of one making of room: those of the first step, and those for the clean share.
+// The orders of one making of room: those of the first step, and those for the clean share. Where there are none, no order has the reason.
 #[derive(Clone, Copy)]
 pub struct RoomRuns {
     pub reason: Reason,
@@ -29,7 +29,7 @@ pub struct Done {
     pub given: usize,
     pub runs: Runs,
     // Of the maximum.
-    pub change: Change,
+    pub change: Option<Change>,
 }
 
 // Where bytes and rows both press, the reason is bytes.
@@ -37,9 +37,10 @@ pub fn pressing(exceeded: bool) -> Reason
     ensures { result ≡ (if exceeded then reason.Bytes else reason.Rows) }
 {
     if exceeded {
-        return Reason::Bytes;
+        Reason::Bytes
+    } else {
+        Reason::Rows
     }
-    Reason::Rows
 }
 
 // No orders.
@@ -57,12 +58,11 @@ pub fn no_runs() -> RoomRuns
 pub fn room_alone(room: RoomRuns) -> Runs
     ensures { all_runs result ≡ room_runs room }
 {
-    let again = no_runs();
     Runs {
         room,
         load: 0,
         aged: 0,
-        again,
+        again: no_runs(),
     }
 }
 
@@ -78,13 +78,12 @@ pub fn one_run(reason: Reason, count: usize) -> Runs
 }
 
 // Work that gave no orders.
-pub fn no_orders(change: Change) -> Done
+pub fn no_orders(change: Option<Change>) -> Done
     ensures { (result.given ≡ 0) × (all_runs result.runs ≡ []) × (result.change ≡ change) }
 {
-    let runs = room_alone(no_runs());
     Done {
         given: 0,
-        runs,
+        runs: room_alone(no_runs()),
         change,
     }
 }

@@ -1,6 +1,5 @@
 -- What the work of a request asks.
-use Rattle.std.specs.Prelude.{ℕ, List, ◌≡◌}
-use Rattle.std.proofs.Math.Option.{none}
+use Rattle.std.specs.Prelude.{ℕ, List, ◌≡◌, None}
 use Rattle.rules.specs.Allowed.{Allowed}
 use Rattle.rules.specs.Refusals.{Call, refusal_of}
 use Rattle.layout.specs.Holds.{Good}
@@ -10,4 +9,4 @@ use Rattle.layout.specs.Picture.{cache_in}
 pub record Unrefused (ws : List ℕ) (call : Call) : Type 0 where
   pub good : Good ws
   pub allowed : Allowed (cache_in ws)
-  pub accepted : refusal_of (cache_in ws) call ≡ none
+  pub accepted : refusal_of (cache_in ws) call ≡ None

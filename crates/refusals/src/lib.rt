@@ -1,5 +1,5 @@
 // Why a request is refused: its tests, as the rules order them.
-#![tactic(auto)]
+#![tactic(auto, unfolding(rules::specs::Refusals::refusal_of))]
 
 ghost use Rattle.std.specs.Prelude.{◌≡◌};
 ghost use Rattle.rules.specs.Hosts.{asking};
@@ -9,7 +9,7 @@ ghost use Rattle.layout.specs.Picture.{cache_in};
 ghost use Rattle.table.specs.Asked.{GoodRows};
 ghost use Rattle.refusals.specs.Named.{found_for};
 
-use rules::answer::Verdict;
+use rules::answer::Refusal;
 use rules::request::Request;
 use table::lookup::Found;
 
@@ -19,11 +19,11 @@ pub mod named;
 pub fn refusal_of(
     table: &[u64],
     rows: usize,
-    found: Found,
+    found: Option<Found>,
     lent: usize,
     message: &[u8],
     request: Request,
-) -> Verdict
+) -> Result<(), Refusal>
     requires { GoodRows table.now rows × (found ≡ found_for (cache_in table.now).rows request) }
     ensures { result ≡ verdict_of (refusal_of (cache_in table.now) (asking request message.now lent)) }
 {

@@ -8,36 +8,26 @@ use rules::request::Request;
 use table::lookup::{Found, find};
 
 // Where it stands; nothing for a request that names none.
-pub fn find_named(table: &[u64], rows: usize, request: Request) -> Found
+pub fn find_named(table: &[u64], rows: usize, request: Request) -> Option<Found>
     requires { GoodRows table.now rows }
     ensures { result ≡ found_for (cache_in table.now).rows request }
 {
     match request {
-        Request::Insert { address, size: _ } => find(table, rows, address),
-        Request::Protect {
-            access: _,
-            address,
-            size: _,
-        } => find(table, rows, address),
-        Request::Release { address } => find(table, rows, address),
-        Request::ReleaseChanged { address, size: _ } => find(table, rows, address),
-        Request::Pin { address } => find(table, rows, address),
-        Request::Unpin { address } => find(table, rows, address),
-        Request::Resize { address, size: _ } => find(table, rows, address),
-        Request::Discard { address } => find(table, rows, address),
-        Request::Flush => Found::Nothing,
-        Request::Sync => Found::Nothing,
-        Request::Take => Found::Nothing,
-        Request::Configure(_) => Found::Nothing,
+        Request::Insert { address, .. }
+        | Request::Protect { address, .. }
+        | Request::Release { address }
+        | Request::ReleaseChanged { address, .. }
+        | Request::Pin { address }
+        | Request::Unpin { address }
+        | Request::Resize { address, .. }
+        | Request::Discard { address } => find(table, rows, address),
+        Request::Flush | Request::Sync | Request::Take | Request::Configure(_) => None,
     }
 }
 
-// The row of an address that was found; 0 for one that was not.
-pub fn row_in(found: Found) -> usize
+// The row of an address that was found; 0 for one that was not, whose row no work asks for.
+pub fn row_in(found: Option<Found>) -> usize
     ensures { result ≡ row_found found }
 {
-    match found {
-        Found::At { place: _, row } => row,
-        Found::Nothing => 0,
-    }
+    found.map_or(0, |at| at.row)
 }

@@ -1,9 +1,8 @@
 -- An entry that loses a hold: it is touched in its row, and room is made for nothing unless it is still held.
-use Rattle.std.specs.Prelude.{if◌then◌else◌}
+use Rattle.std.specs.Prelude.{if◌then◌else◌, Some, None}
 use Prim.Native.Nat.{ℕ}
 use mathlib.Core.Bool.{Bool, true, false}
 use mathlib.Core.List.{List, []}
-use mathlib.Core.Option.{some}
 use mathlib.Core.Path.{◌≡◌, refl, sym, ap, subst, ◌∙◌}
 use lib.ListN.{length}
 use borrow.Author.Tests.{eq-eqb}
@@ -32,8 +31,7 @@ use Rattle.room.proofs.Kept.{did_start}
 use Rattle.room.proofs.Orders.{words_fit}
 use Rattle.room.specs.Did.{Did, Fits}
 use Rattle.room.specs.Held.{HeldIs}
-use Rattle.room.specs.declared.held.Held.{Held}
-use Rattle.room.specs.declared.held.Held.TheVariants.{Known, Unknown}
+use Rattle.room.specs.Types.{Held}
 use Rattle.table.proofs.Amended.{Keeps, asks_touch, told_touch}
 use Rattle.resize.proofs.Resized.{changed_keeps}
 use Rattle.release.specs.Unheld.{room_unless_held, reasons_unless_held}
@@ -58,7 +56,7 @@ changed s e z = record {
 }
 
 -- a size named at the entry's own address
-pub named_here : (c : Cache) (a s : ℕ) (e : Entry) {ws rest : List ℕ} → get c.rows a ≡ some e → Holds ws (named e.address s c) rest → Holds ws (named a s c) rest
+pub named_here : (c : Cache) (a s : ℕ) (e : Entry) {ws rest : List ℕ} → get c.rows a ≡ Some e → Holds ws (named e.address s c) rest → Holds ws (named a s c) rest
 named_here c a s e {ws} {rest} g h = subst (λ (b : ℕ). Holds ws (named b s c) rest) (told_address c.rows a e g) h
 
 -- ---- room unless held
@@ -82,7 +80,7 @@ module _ (hold : Hold) where
 
 -- the table holds a cache d with the rows of c, where the entry is
 module _ (f : Entry → Entry) {a rows row : ℕ} {e x : Entry} (k : Releases f e) (p : x ≡ f e) {ws rest : List ℕ} (c : Cache) {d : Cache} (same : d.rows ≡ c.rows) (h : Holds ws d rest)
-    (q : rows ≡ length c.rows) (r : RowOf c.rows a row) (g : get c.rows a ≡ some e) where
+    (q : rows ≡ length c.rows) (r : RowOf c.rows a row) (g : get c.rows a ≡ Some e) where
   rows_told : (cache_in ws).rows ≡ c.rows
   rows_told = ap (λ (b : Cache). b.rows) (holds_cache h) ∙ same
 
@@ -92,7 +90,7 @@ module _ (f : Entry → Entry) {a rows row : ℕ} {e x : Entry} (k : Releases f 
   there : RowOf (cache_in ws).rows a row
   there = rw rows_told r
 
-  found : get (cache_in ws).rows a ≡ some e
+  found : get (cache_in ws).rows a ≡ Some e
   found = rw rows_told g
 
   -- what touching the entry asks
@@ -111,9 +109,9 @@ module _ (f : Entry → Entry) {a rows row : ℕ} {e x : Entry} (k : Releases f 
 
     -- sizes stay, and so do the held bytes that are known
     pub held_stays : ((y : Entry) → (f y).size ≡ y.size) → (known : Held) → HeldIs known (cache_in ws) → HeldIs known (cache_in vs)
-    held_stays z (Known n) i =
+    held_stays z (Some n) i =
         i ∙ ap held_bytes (rows_told ∙ sym same) ∙ sym (total_same (λ y. y.size) a f z d.rows) ∙ ap (λ (b : Cache). held_bytes b.rows) (sym (holds_cache touched))
-    held_stays z Unknown i = tt
+    held_stays z None i = tt
 
     -- the rules test the hold that is left
     hold_left : passes (λ y. is_held y.hold) (get (amend a f d.rows) a) ≡ is_held (less_one e.hold)

@@ -15,10 +15,9 @@ ghost use Rattle.reasons.specs.Runs.{room_runs};
 ghost use Rattle.release.specs.Unheld.{room_unless_held, reasons_unless_held};
 
 use entries::{changed_to, is_held, less_one, released};
-use reason_rules::Change;
 use reasons::runs::{Done, no_runs, room_alone};
 use resize::name_size;
-use room::{Held, Made, make_room};
+use room::{Made, make_room};
 use rules::entry::Hold;
 use table::header::row_count;
 use table::lookup::entry_of;
@@ -30,35 +29,41 @@ fn room_unless_held(
     orders: &mut [u64],
     rows: usize,
     hold: Hold,
-    known: Held,
+    known: Option<u64>,
 ) -> Made
     requires { GoodRows table.old rows × Fits (cache_in table.old) 0 orders.old × HeldIs known (cache_in table.old) }
     ensures did { Did (room_unless_held hold (cache_in table.old)) (rest_in table.old) table.new 0 orders.old orders.new result.given }
     ensures named { room_runs result.runs ≡ reasons_unless_held hold (cache_in table.old) }
 {
     if is_held(hold) {
-        let runs = no_runs();
-        return Made { given: 0, runs };
+        return Made {
+            given: 0,
+            runs: no_runs(),
+        };
     }
     make_room(table, orders, rows, 0, false, 0, known)
 }
 
 // The held bytes stay, so a caller that knows them has them summed no more.
-pub fn release(table: &mut [u64], orders: &mut [u64], row: usize, address: u64, known: Held) -> Done
+pub fn release(
+    table: &mut [u64],
+    orders: &mut [u64],
+    row: usize,
+    address: u64,
+    known: Option<u64>,
+) -> Done
     requires { Unrefused table.old (asking (Release address) [] (length orders.old)) × RowOf (cache_in table.old).rows address row × HeldIs known (cache_in table.old) }
     ensures did { Did (effect (cache_in table.old) [] (Release address)) (rest_in table.old) table.new 0 orders.old orders.new result.given }
     ensures explains { Explains (cache_in table.old) (Release address) result }
 {
     let rows = row_count(table);
     let e = entry_of(table, rows, row, address);
-    let hold = e.hold;
     touch_entry(table, rows, row, released(e));
-    let made = room_unless_held(table, orders, rows, less_one(hold), known);
-    let runs = room_alone(made.runs);
+    let made = room_unless_held(table, orders, rows, less_one(e.hold), known);
     Done {
         given: made.given,
-        runs,
-        change: Change::Same,
+        runs: room_alone(made.runs),
+        change: None,
     }
 }
 
@@ -76,14 +81,12 @@ pub fn release_changed(
 {
     let rows = row_count(table);
     let e = entry_of(table, rows, row, address);
-    let hold = e.hold;
     let change = name_size(table, rows, e, size);
     touch_entry(table, rows, row, released(changed_to(size, e)));
-    let made = room_unless_held(table, orders, rows, less_one(hold), Held::Unknown);
-    let runs = room_alone(made.runs);
+    let made = room_unless_held(table, orders, rows, less_one(e.hold), None);
     Done {
         given: made.given,
-        runs,
+        runs: room_alone(made.runs),
         change,
     }
 }

@@ -1,5 +1,5 @@
 -- The totals while they are filled: each is what the rows passed have, so that with the rows left it is the whole.
-use Rattle.std.specs.Prelude.{if◌then◌else◌}
+use Rattle.std.specs.Prelude.{if◌then◌else◌, None, Some}
 use Prim.Native.Nat.{ℕ, zero, suc, ◌+◌, ◌*◌, ◌≤◌, ◌<◌}
 use mathlib.Core.Bool.{Bool}
 use mathlib.Core.List.{List}
@@ -11,8 +11,7 @@ use lib.ListN.{length, length-set, get_or, set, drop, replicate}
 use lib.Seq.{ext_get_or, get_or-set_same, get_or-set_other}
 use borrow.Author.Tests.{eqb-true, eqb-false, eq-eqb}
 use Rattle.rules.specs.declared.entry.Entry.{Entry}
-use Rattle.rules.specs.declared.entry.Row.{Row}
-use Rattle.rules.specs.declared.entry.Row.TheVariants.{Free, Used}
+use Rattle.rules.specs.Types.{Row}
 use Rattle.rules.specs.Limits.{most_idle, most_rows, most_size}
 use Rattle.rules.specs.Reports.{idle_count, idle_bytes, totals_from}
 use Rattle.rules.proofs.Tests.{split, if_same}
@@ -36,12 +35,12 @@ idle_small j e = split (eqb e.idle j) (λ p. rw p (omega arith)) (λ p. rw p (om
 
 idle_word : (j : ℕ) (x : Row) → (if eqb (get_or (row_words x) 3 0) j then get_or (row_words x) 1 0 else 0) ≡ row_figure (idle_size j) x
 unfolding idle_size
-idle_word j Free = if_same (eqb 0 j) 0
-idle_word j (Used e) = refl
+idle_word j None = if_same (eqb 0 j) 0
+idle_word j (Some e) = refl
 
 idle_most : (x : Row) → RowAllowed x → get_or (row_words x) 3 0 ≤ most_idle
-idle_most Free h = omega arith
-idle_most (Used e) h = h.idle
+idle_most None h = omega arith
+idle_most (Some e) h = h.idle
 
 -- ---- the totals
 
@@ -75,7 +74,7 @@ module _ {table totals : List ℕ} {i rows : ℕ} (g : GoodRows table rows) (k :
     within = let s = g.size in omega arith
 
     pub idle_in : get_or table (row_at i + 3) 0 ≤ 10
-    idle_in = rw (row_word g i 3 l (omega arith)) (idle_most (get_or (cache_in table).rows i Free) (row_allowed g.good i))
+    idle_in = rw (row_word g i 3 l (omega arith)) (idle_most (get_or (cache_in table).rows i None) (row_allowed g.good i))
 
     turn : (j : ℕ) → idle_bytes (drop i (cache_in table).rows) j
         ≡ (if eqb (get_or table (row_at i + 3) 0) j then get_or table (row_at i + 1) 0 else 0) + idle_bytes (drop (i + 1) (cache_in table).rows) j
@@ -83,7 +82,7 @@ module _ {table totals : List ℕ} {i rows : ℕ} (g : GoodRows table rows) (k :
     turn j =
         total_next (cache_in table).rows i (idle_size j) within
         ∙ ap (λ (n : ℕ). n + idle_bytes (drop (i + 1) (cache_in table).rows) j)
-        (sym (ap₂ (λ (d n : ℕ). if eqb d j then n else 0) (row_word g i 3 l (omega arith)) (row_word g i 1 l (omega arith)) ∙ idle_word j (get_or (cache_in table).rows i Free)))
+        (sym (ap₂ (λ (d n : ℕ). if eqb d j then n else 0) (row_word g i 3 l (omega arith)) (row_word g i 1 l (omega arith)) ∙ idle_word j (get_or (cache_in table).rows i None)))
 
     -- a total fits a word with room for the row's size
     pub total_small : get_or totals (get_or table (row_at i + 3) 0) 0 + get_or table (row_at i + 1) 0 ≤ most_rows * most_size

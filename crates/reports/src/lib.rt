@@ -14,13 +14,6 @@ use rules::report::Report;
 use table::header::{count, maximum, next_number, row_count, settings, threshold};
 use table::runs::used_len;
 
-// A size that counts, or 0.
-fn size_if(counts: bool, size: u64) -> u64
-    ensures { result ≡ (if counts then size else 0) }
-{
-    if counts { size } else { 0 }
-}
-
 // Sums over the rows.
 #[derive(Clone, Copy)]
 pub struct Sums {
@@ -40,15 +33,15 @@ pub fn sums_of(table: &[u64], rows: usize) -> Sums
     let mut held: u64 = 0;
     let mut dirty: u64 = 0;
     let mut totals = [0u64; 11];
-    let mut i: usize = 0;
-    while i < rows {
+    for i in 0..rows {
         let at = HEADER + i * WIDTH;
         let size = table[at + 1];
         let idle = table[at + 3] as usize;
         held += size;
-        dirty += size_if(table[at + 2] != 0, size);
-        totals[idle] = totals[idle] + size;
-        i += 1;
+        if table[at + 2] != 0 {
+            dirty += size;
+        }
+        totals[idle] += size;
     }
     Sums {
         held,
@@ -64,26 +57,26 @@ pub fn report_of(table: &[u64]) -> Report
     ensures { result ≡ report_of (cache_in table.now) }
 {
     let rows = row_count(table);
-    let sums = sums_of(table, rows);
+    let Sums {
+        held,
+        dirty,
+        totals,
+    } = sums_of(table, rows);
     let entries = used_len(table, rows);
     let maximum = maximum(table);
-    let s = settings(table);
-    let clean = fraction::size_product(maximum, s.clean);
-    let missing = share_missing(table, rows, 0, sums.held);
+    let clean = fraction::size_product(maximum, settings(table).clean);
+    let missing = share_missing(table, rows, 0, held);
     let count = count(table);
-    let threshold = threshold(table);
-    let next = next_number(table);
-    let totals = sums.totals;
     Report {
-        held: sums.held,
-        dirty: sums.dirty,
+        held,
+        dirty,
         entries: entries as u64,
         maximum,
         clean,
         missing,
         count,
-        due: threshold < count,
-        next,
+        due: threshold(table) < count,
+        next: next_number(table),
         totals,
     }
 }

@@ -2,7 +2,7 @@
 use Prim.Native.Nat.{ℕ, ◌+◌, ◌-◌, min}
 use mathlib.Core.Bool.{Bool, true, false}
 use mathlib.Core.List.{List}
-use mathlib.Core.Option.{some}
+use Rattle.std.specs.Prelude.{Some, Option}
 use mathlib.Core.Path.{◌≡◌, refl, sym, ap, ap₂, subst, ◌∙◌}
 use lib.Dec.{ltb}
 use Rattle.rules.proofs.Tests.{choose}
@@ -32,12 +32,12 @@ flashed_count x c = choose (λ (d : Cache). d.count ≡ c.count) (ltb c.maximum 
 
 -- ---- a named size
 
-module _ (c : Cache) (a s : ℕ) (e : Entry) (g : get c.rows a ≡ some e) (x : ℕ) (p : x ≡ s - e.size) where
+module _ (c : Cache) (a s : ℕ) (e : Entry) (g : get c.rows a ≡ Some e) (x : ℕ) (p : x ≡ s - e.size) where
   grows : x ≡ growth a s c
   grows = p ∙ ap (λ (n : ℕ). s - n) (told_size c.rows a e g)
 
   -- the change of the flash by x
-  pub named_change : {y : Change} → y ≡ change_of (flash_change x c) → y ≡ change_of (flash_change (growth a s c) c)
+  pub named_change : {y : Option Change} → y ≡ change_of (flash_change x c) → y ≡ change_of (flash_change (growth a s c) c)
   named_change i = i ∙ ap (λ (n : ℕ). change_of (flash_change n c)) grows
 
   -- the entry is dirty, so the count stays

@@ -2,7 +2,7 @@
 use Prim.Native.Nat.{ℕ}
 use mathlib.Core.Bool.{false}
 use mathlib.Core.List.{List}
-use mathlib.Core.Option.{some}
+use Rattle.std.specs.Prelude.{Some, Option}
 use mathlib.Core.Path.{◌≡◌, refl, sym, ap, subst, ◌∙◌}
 use lib.ListN.{length}
 use Rattle.rules.proofs.Effects.{changed_allowed}
@@ -13,7 +13,7 @@ use Rattle.rules.specs.Refusals.{bad_size}
 use Rattle.rules.specs.Requests.{named, growth}
 use Rattle.rules.specs.Rows.{get, passes}
 use Rattle.rules.specs.declared.entry.Entry.{Entry}
-use Rattle.rules.specs.declared.entry.Row.{Row}
+use Rattle.rules.specs.Types.{Row}
 use Rattle.reason_rules.specs.declared.Change.{Change}
 use Rattle.reason_rules.specs.Reasons.{flash_change}
 use Rattle.reasons.specs.Changes.{change_of}
@@ -33,11 +33,11 @@ changed_keeps s e b = record {
 }
 
 -- an entry is found at its own address
-pub own_get : (rows : List Row) (a : ℕ) (e : Entry) → get rows a ≡ some e → get rows e.address ≡ some e
+pub own_get : (rows : List Row) (a : ℕ) (e : Entry) → get rows a ≡ Some e → get rows e.address ≡ Some e
 own_get rows a e g = ap (get rows) (told_address rows a e g) ∙ g
 
 -- and the change of its growth is that of the growth at the address
-pub own_change : (c : Cache) (a s : ℕ) (e : Entry) → get c.rows a ≡ some e → {y : Change} → y ≡ change_of (flash_change (growth e.address s c) c)
+pub own_change : (c : Cache) (a s : ℕ) (e : Entry) → get c.rows a ≡ Some e → {y : Option Change} → y ≡ change_of (flash_change (growth e.address s c) c)
     → y ≡ change_of (flash_change (growth a s c) c)
 own_change c a s e g i = i ∙ ap (λ (b : ℕ). change_of (flash_change (growth b s c) c)) (told_address c.rows a e g)
 
@@ -47,14 +47,14 @@ module _ {vs rest : List ℕ} (c : Cache) (b s : ℕ) (h : Holds vs (named b s c
   named_rows : (cache_in vs).rows ≡ c.rows
   named_rows = ap (λ (d : Cache). d.rows) (holds_cache h) ∙ flashed_rows _ c
 
-  module _ {a rows row : ℕ} {e x : Entry} (z : bad_size s ≡ false) (p : x ≡ changed_to s e) (q : rows ≡ length c.rows) (r : RowOf c.rows a row) (g : get c.rows a ≡ some e) where
+  module _ {a rows row : ℕ} {e x : Entry} (z : bad_size s ≡ false) (p : x ≡ changed_to s e) (q : rows ≡ length c.rows) (r : RowOf c.rows a row) (g : get c.rows a ≡ Some e) where
     good : GoodRows vs rows
     good = good_rows h (q ∙ sym (ap length (flashed_rows _ c)))
 
     there : RowOf (cache_in vs).rows a row
     there = rw named_rows r
 
-    found : get (cache_in vs).rows a ≡ some e
+    found : get (cache_in vs).rows a ≡ Some e
     found = rw named_rows g
 
     -- what setting the entry asks

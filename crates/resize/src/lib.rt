@@ -2,7 +2,6 @@
 #![tactic(auto)]
 
 ghost use Rattle.std.specs.Prelude.{◌≡◌, false, []};
-ghost use Rattle.std.proofs.Math.Option.{some};
 ghost use Rattle.rules.specs.declared.request.Request.TheVariants.{Resize};
 ghost use Rattle.rules.specs.Hosts.{asking};
 ghost use Rattle.rules.specs.Refusals.{bad_size};
@@ -23,12 +22,12 @@ use table::header::{count, row_count, set_count};
 use table::lookup::entry_of;
 
 // A size named for an entry: the flash by its growth, whose change is the answer, and the byte count if it was clean.
-pub fn name_size(table: &mut [u64], rows: usize, e: Entry, size: u64) -> Change
-    requires { GoodRows table.old rows × (get (cache_in table.old).rows e.address ≡ some e) × (bad_size size ≡ false) }
+pub fn name_size(table: &mut [u64], rows: usize, e: Entry, size: u64) -> Option<Change>
+    requires { GoodRows table.old rows × (get (cache_in table.old).rows e.address ≡ Some e) × (bad_size size ≡ false) }
     ensures holds { Holds table.new (named e.address size (cache_in table.old)) (rest_in table.old) }
     ensures change { result ≡ change_of (flash_change (growth e.address size (cache_in table.old)) (cache_in table.old)) }
 {
-    let change = flash::flash(table, rows, new_maximum::less(size, e.size));
+    let change = flash::flash(table, rows, size.saturating_sub(e.size));
     if e.dirty {
         return change;
     }
@@ -37,7 +36,7 @@ pub fn name_size(table: &mut [u64], rows: usize, e: Entry, size: u64) -> Change
 }
 
 // The answer is the change of the maximum.
-pub fn resize(table: &mut [u64], row: usize, address: u64, size: u64) -> Change
+pub fn resize(table: &mut [u64], row: usize, address: u64, size: u64) -> Option<Change>
     requires { Unrefused table.old (asking (Resize address size) [] 0) × RowOf (cache_in table.old).rows address row }
     ensures holds { Holds table.new (effect (cache_in table.old) [] (Resize address size)).cache (rest_in table.old) }
     ensures change { result ≡ change_of (changes_of (cache_in table.old) (Resize address size)) }

@@ -1,9 +1,8 @@
 -- No pass reads the orders given before it: they stay in front of its own.
-use Rattle.std.specs.Prelude.{if◌then◌else◌}
+use Rattle.std.specs.Prelude.{if◌then◌else◌, Option, None, Some, option_map}
 use Prim.Native.Nat.{ℕ, zero, suc, ◌+◌}
 use mathlib.Core.Path.{◌≡◌, refl, ap, ◌∙◌}
 use mathlib.Core.Bool.{Bool, true, false, ◌&&◌}
-use mathlib.Core.Option.{Option, none, some, map}
 use mathlib.Core.List.{List, [], ◌∷◌, ◌++◌, append_assoc}
 use lib.Dec.{ltb, leb}
 use lib.Ieee.{Float, lt, eq}
@@ -43,25 +42,25 @@ module _ (before : List Order) where
 
   -- a turn of step 1 does not look at the orders before it
   abbrev Carries : (Work → Option Work) → Type 0
-  Carries turn = (w : Work) → turn (after before w) ≡ map (after before) (turn w)
+  Carries turn = (w : Work) → turn (after before w) ≡ option_map (after before) (turn w)
 
   pub tail_carries : Carries tail_turn
   tail_carries w = go w.cache.recency
     where
-      go : (l : List ℕ) → look_at_tail l (after before w) ≡ map (after before) (look_at_tail l w)
+      go : (l : List ℕ) → look_at_tail l (after before w) ≡ option_map (after before) (look_at_tail l w)
       go [] = refl
-      go (a ∷ l) = ap some (chosen (dirty_at w.cache.rows a) (write a (l ++ a ∷ []) w) (evict a w) (write_carries a (l ++ a ∷ []) w) (evict_carries a w))
+      go (a ∷ l) = ap Some (chosen (dirty_at w.cache.rows a) (write a (l ++ a ∷ []) w) (evict a w) (write_carries a (l ++ a ∷ []) w) (evict_carries a w))
 
   pub clean_carries : Carries clean_turn
   clean_carries w = go (nearest (clean_at w.cache.rows) w.cache.recency)
     where
-      go : (o : Option ℕ) → map (λ a. evict a (after before w)) o ≡ map (after before) (map (λ a. evict a w) o)
-      go none = refl
-      go (some a) = ap some (evict_carries a w)
+      go : (o : Option ℕ) → option_map (λ a. evict a (after before w)) o ≡ option_map (after before) (option_map (λ a. evict a w) o)
+      go None = refl
+      go (Some a) = ap Some (evict_carries a w)
 
-  stay_carries : (o : Option Work) (w : Work) → or_stay (map (after before) o) (after before w) ≡ after before (or_stay o w)
-  stay_carries none w = refl
-  stay_carries (some u) w = refl
+  stay_carries : (o : Option Work) (w : Work) → or_stay (option_map (after before) o) (after before w) ≡ after before (or_stay o w)
+  stay_carries None w = refl
+  stay_carries (Some u) w = refl
 
   pub turns_carry : (turn : Work → Option Work) → Carries turn → (n x : ℕ) (row : Bool) (w : Work) → turns n turn x row (after before w) ≡ after before (turns n turn x row w)
   unfolding turns

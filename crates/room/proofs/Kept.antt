@@ -3,7 +3,7 @@
 use Prim.Native.Nat.{ℕ, ◌+◌, ◌*◌, ◌-◌, ◌<◌, ◌≤◌}
 use mathlib.Core.Bool.{Bool, true, false, not, ◌&&◌, ◌||◌}
 use mathlib.Core.List.{List, [], ◌∷◌}
-use mathlib.Core.Option.{some}
+use Rattle.std.specs.Prelude.{Some}
 use mathlib.Core.Path.{◌≡◌, refl, sym, ap, ◌∙◌}
 use native.Mathlib.Omega.{arith}
 use lib.Dec.{ltb}
@@ -98,7 +98,7 @@ module _ (c : Cache) (s : Sound c) (pos : ℕ) (low : pos < length c.recency) wh
   pub at_listed : passes is_listed (get c.rows (get_or c.recency pos 0)) ≡ true
   at_listed = sym (s.listed (get_or c.recency pos 0)) ∙ elem_at pos c.recency low
 
-  found : (e : Entry) × (get c.rows (get_or c.recency pos 0) ≡ some e) × (is_listed e ≡ true)
+  found : (e : Entry) × (get c.rows (get_or c.recency pos 0) ≡ Some e) × (is_listed e ≡ true)
   found = present is_listed (get c.rows (get_or c.recency pos 0)) at_listed
 
   pub left_evict : dirty_at c.rows (get_or c.recency pos 0) ≡ false → left (dropped (get_or c.recency pos 0) c) + 1 ≡ left c

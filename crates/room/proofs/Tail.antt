@@ -2,7 +2,8 @@
 use Prim.Native.Nat.{ℕ, ◌<◌}
 use mathlib.Core.Bool.{Bool, true, false}
 use mathlib.Core.List.{List, [], ◌∷◌, ◌++◌}
-use mathlib.Core.Option.{Option, none, some, some-ne-none}
+use Rattle.std.proofs.lemmas.Option.{none-some}
+use Rattle.std.specs.Prelude.{Option, None, Some}
 use mathlib.Core.Path.{◌≡◌, refl, sym, subst, ◌∙◌}
 use native.Mathlib.Omega.{arith}
 use lib.ListN.{length, get_or, drop, length-append, length-drop}
@@ -20,28 +21,28 @@ module _ {on : Work → Bool} {turn : Work → Option Work} where
   while_met (none_left h n) p = refl
   while_met (again {w} h e l) p = either (on w) h p
 
-  pub while_none : {w v : Work} → While on turn w v → turn w ≡ none → w ≡ v
+  pub while_none : {w v : Work} → While on turn w v → turn w ≡ None → w ≡ v
   while_none (met h) p = refl
   while_none (none_left h n) p = refl
-  while_none (again {w} {u} h e l) p = absurd (some-ne-none u (sym e ∙ p))
+  while_none (again {w} {u} h e l) p = absurd (none-some u (sym (sym e ∙ p)))
 
-  pub while_again : {w u v : Work} → While on turn w v → on w ≡ true → turn w ≡ some u → While on turn u v
+  pub while_again : {w u v : Work} → While on turn w v → on w ≡ true → turn w ≡ Some u → While on turn u v
   while_again (met {w} h) p q = either (on w) p h
-  while_again {u = u} (none_left h n) p q = absurd (some-ne-none u (sym q ∙ n))
+  while_again {u = u} (none_left h n) p q = absurd (none-some u (sym (sym q ∙ n)))
   while_again {u = u} {v} (again {u = t} h e l) p q = let same : t ≡ u = cc in subst (λ (x : Work). While on turn x v) same l
 
 -- ---- the tail
 
 pub turn_write : (l : List ℕ) (w : Work) → 0 < length l → dirty_at w.cache.rows (get_or l 0 0) ≡ true
-    → look_at_tail l w ≡ some (write (get_or l 0 0) (drop 1 l ++ get_or l 0 0 ∷ []) w)
+    → look_at_tail l w ≡ Some (write (get_or l 0 0) (drop 1 l ++ get_or l 0 0 ∷ []) w)
 turn_write [] w h d = absurd (omega arith)
 turn_write (a ∷ l) w h d = rw d
 
-pub turn_evict : (l : List ℕ) (w : Work) → 0 < length l → dirty_at w.cache.rows (get_or l 0 0) ≡ false → look_at_tail l w ≡ some (evict (get_or l 0 0) w)
+pub turn_evict : (l : List ℕ) (w : Work) → 0 < length l → dirty_at w.cache.rows (get_or l 0 0) ≡ false → look_at_tail l w ≡ Some (evict (get_or l 0 0) w)
 turn_evict [] w h d = absurd (omega arith)
 turn_evict (a ∷ l) w h d = rw d
 
-pub turn_none : (l : List ℕ) (w : Work) → length l ≡ 0 → look_at_tail l w ≡ none
+pub turn_none : (l : List ℕ) (w : Work) → length l ≡ 0 → look_at_tail l w ≡ None
 turn_none [] w h = refl
 turn_none (a ∷ l) w h = absurd (omega arith)
 

@@ -2,7 +2,7 @@
 use Prim.Native.Nat.{ℕ, ◌+◌, ◌<◌, ◌≤◌}
 use mathlib.Core.Bool.{Bool, true, false, true≢false}
 use mathlib.Core.List.{List, [], ◌∷◌, ◌++◌}
-use mathlib.Core.Option.{none, some, map}
+use Rattle.std.specs.Prelude.{None, Some, option_map}
 use mathlib.Core.Path.{◌≡◌, refl, sym, ap}
 use native.Mathlib.Numerals.{add-one}
 use native.Mathlib.Omega.{arith}
@@ -24,9 +24,9 @@ use Rattle.room.specs.First.{turn_in, evict_in}
 -- The rule comes from work w to v, and no clean entry stands before a place of the list.
 pub record ToDo (alone : Bool) (x : ℕ) (row : Bool) (pos : ℕ) (w v : Work) : Type 0 where
   pub loop : While (λ u. lacking x row u.cache) (turn_in alone) w v
-  pub passed : nearest (clean_at w.cache.rows) (take pos w.cache.recency) ≡ none
+  pub passed : nearest (clean_at w.cache.rows) (take pos w.cache.recency) ≡ None
 
-none_passed : (test : ℕ → Bool) (pos : ℕ) (l : List ℕ) → pos ≡ 0 → nearest test (take pos l) ≡ none
+none_passed : (test : ℕ → Bool) (pos : ℕ) (l : List ℕ) → pos ≡ 0 → nearest test (take pos l) ≡ None
 unfolding nearest
 none_passed test pos l z = rw z
 
@@ -42,7 +42,7 @@ module _ (x : ℕ) (row : Bool) (c : Cache) where
     pub to_do_nothing : (alone : Bool) → (alone ≡ true → pos ≡ 0) → length c.recency ≤ pos → ToDo alone x row pos (work c orders) v → work c orders ≡ v
     to_do_nothing true z h t = let e = z refl in while_none t.loop (turn_none c.recency (work c orders) (omega arith))
     to_do_nothing false z h t =
-        while_none t.loop (ap (map (λ a. evict a (work c orders))) (nearest_none (clean_at c.rows) pos c.recency h t.passed))
+        while_none t.loop (ap (option_map (λ a. evict a (work c orders))) (nearest_none (clean_at c.rows) pos c.recency h t.passed))
 
     module _ (low : pos < length c.recency) where
       pub to_do_skip : (alone : Bool) → dirty_at c.rows (get_or c.recency pos 0) ≡ true
@@ -62,10 +62,10 @@ module _ (x : ℕ) (row : Bool) (c : Cache) where
       to_do_turn false a z l d t = absurd (true≢false (sym a))
 
       turns_to : (alone : Bool) → Sound c → (alone ≡ true → pos ≡ 0) → dirty_at c.rows (get_or c.recency pos 0) ≡ false
-          → ToDo alone x row pos (work c orders) v → turn_in alone (work c orders) ≡ some (evict (get_or c.recency pos 0) (work c orders))
+          → ToDo alone x row pos (work c orders) v → turn_in alone (work c orders) ≡ Some (evict (get_or c.recency pos 0) (work c orders))
       turns_to true s z d t = rw (z refl) (turn_evict c.recency (work c orders) (omega arith) (rw (z refl) at d))
       turns_to false s z d t =
-          ap (map (λ a. evict a (work c orders))) (nearest_here (clean_at c.rows) pos c.recency low t.passed (at_clean c s pos low d))
+          ap (option_map (λ a. evict a (work c orders))) (nearest_here (clean_at c.rows) pos c.recency low t.passed (at_clean c s pos low d))
 
       pub to_do_evict : (alone : Bool) → Sound c → (alone ≡ true → pos ≡ 0) → lacking x row c ≡ true → dirty_at c.rows (get_or c.recency pos 0) ≡ false
           → ToDo alone x row pos (work c orders) v → ToDo alone x row pos (evict (get_or c.recency pos 0) (work c orders)) v

@@ -1,6 +1,6 @@
 -- What a request on a table leaves and answers.
 use Rattle.std.specs.Prelude.{ℕ, ◌≡◌, List}
-use Rattle.rules.specs.declared.answer.Answer.{Answer}
+use Rattle.rules.specs.Types.{Answer}
 use Rattle.rules.specs.Requests.{Outcome}
 use Rattle.layout.specs.Holds.{Holds}
 use Rattle.room.specs.Did.{put_orders}

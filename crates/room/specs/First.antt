@@ -1,6 +1,5 @@
 -- The first step of making room, alone and in the other modes.
-use Rattle.std.specs.Prelude.{ℕ, Bool, true, false}
-use Rattle.std.proofs.Math.Option.{Option}
+use Rattle.std.specs.Prelude.{ℕ, Bool, true, false, Option}
 use Rattle.rules.specs.Cache.{Cache, Work, start}
 use Rattle.rules.specs.Room.{tail_turn, clean_turn, evict_by}
 

@@ -1,3 +1,4 @@
+pub mod Types
 pub mod After
 pub mod Answered
 pub mod Did

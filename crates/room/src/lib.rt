@@ -6,7 +6,7 @@ mod pass;
 mod room;
 mod share;
 
-pub use held::{Held, held_now};
+pub use held::held_now;
 pub use pass::{Evicted, Stop};
 pub use room::{Made, make_room};
 pub use share::write_dirty;

@@ -7,13 +7,13 @@ ghost use Rattle.room.specs.Did.{Fits, Stopped};
 ghost use Rattle.room.specs.First.{evict_in};
 ghost use Rattle.room.specs.Held.{HeldIs};
 
-use crate::held::{Held, held_now};
+use crate::held::held_now;
 use table::header::maximum;
 use table::lookup::dirty_at;
 use table::orders::{evict_at, turn_tail};
 use table::runs::{has_free, listed_len};
 
-// What stopped the loop.
+// What stopped the loop, as `Stopped` says it.
 #[derive(Clone, Copy)]
 pub enum Stop {
     Enough,
@@ -37,7 +37,7 @@ fn lacks(maximum: u64, need: u64, row: bool, free: bool) -> bool
 }
 
 // While room is lacking, the clean entry nearest the tail is evicted. Alone only the tail is looked at:
-// a dirty one is written and moved to the head.
+// a dirty one is written and moved to the head. Each turn may shorten the list, keep the place or go on, so this is no range.
 pub fn evict_until(
     table: &mut [u64],
     orders: &mut [u64],
@@ -46,7 +46,7 @@ pub fn evict_until(
     size: u64,
     row: bool,
     before: usize,
-    known: Held,
+    known: Option<u64>,
 ) -> Evicted
     requires { GoodRows table.old rows × (size ≤ most_size) × Fits (cache_in table.old) before orders.old × HeldIs known (cache_in table.old) }
     ensures { Stopped size row (evict_in alone size row (cache_in table.old)) (rest_in table.old) table.new before orders.old orders.new result }

@@ -15,7 +15,7 @@ ghost use Rattle.room.specs.First.{evict_in};
 ghost use Rattle.room.specs.Held.{HeldIs};
 ghost use Rattle.room.specs.Made.{two_runs};
 
-use crate::held::{Held, held_now};
+use crate::held::held_now;
 use crate::pass::evict_until;
 use crate::share::write_dirty;
 use entries::is_alone;
@@ -53,7 +53,7 @@ fn room_in(
     size: u64,
     row: bool,
     before: usize,
-    known: Held,
+    known: Option<u64>,
 ) -> Steps
     requires { GoodRows table.old rows × (alone ≡ is_alone (cache_in table.old).mode) × (size ≤ most_size) × Fits (cache_in table.old) before orders.old × HeldIs known (cache_in table.old) }
     ensures did { Did (room_in (cache_in table.old).mode size row (start (cache_in table.old))) (rest_in table.old) table.new before orders.old orders.new result.given }
@@ -85,7 +85,7 @@ fn note_exceeded(table: &mut [u64], size: u64, held: u64) -> bool
 }
 
 // The beginning of making room: that, and the held bytes.
-fn begin_room(table: &mut [u64], rows: usize, size: u64, known: Held) -> Found
+fn begin_room(table: &mut [u64], rows: usize, size: u64, known: Option<u64>) -> Found
     requires { GoodRows table.old rows × (size ≤ most_size) × HeldIs known (cache_in table.old) }
     ensures holds { Holds table.new (noticed size (start (cache_in table.old))).cache (rest_in table.old) }
     ensures figures { (result.held ≡ held_bytes (cache_in table.old).rows) × (result.exceeded ≡ overfull size (cache_in table.old)) }
@@ -100,15 +100,13 @@ fn made_by(exceeded: bool, before: usize, steps: Steps) -> Made
     requires { (before ≤ steps.first) × (steps.first ≤ steps.given) }
     ensures { (result.given ≡ steps.given) × (room_runs result.runs ≡ two_runs exceeded (steps.first - before) (steps.given - steps.first)) }
 {
-    let reason = pressing(exceeded);
-    let runs = RoomRuns {
-        reason,
-        first: steps.first - before,
-        share: steps.given - steps.first,
-    };
     Made {
         given: steps.given,
-        runs,
+        runs: RoomRuns {
+            reason: pressing(exceeded),
+            first: steps.first - before,
+            share: steps.given - steps.first,
+        },
     }
 }
 
@@ -120,7 +118,7 @@ pub fn make_room(
     size: u64,
     row: bool,
     before: usize,
-    known: Held,
+    known: Option<u64>,
 ) -> Made
     requires { GoodRows table.old rows × (size ≤ most_size) × Fits (cache_in table.old) before orders.old × HeldIs known (cache_in table.old) }
     ensures did { Did (make_room size row (start (cache_in table.old))) (rest_in table.old) table.new before orders.old orders.new result.given }
@@ -128,14 +126,13 @@ pub fn make_room(
 {
     let s = settings(table);
     if !s.evictions {
-        let runs = no_runs();
         return Made {
             given: before,
-            runs,
+            runs: no_runs(),
         };
     }
     let found = begin_room(table, rows, size, known);
-    let held = Held::Known(found.held);
+    let held = Some(found.held);
     let alone = is_alone(mode(table));
     let steps = room_in(table, orders, rows, alone, size, row, before, held);
     made_by(found.exceeded, before, steps)

@@ -9,7 +9,6 @@ ghost use Rattle.table.specs.Asked.{GoodRows};
 ghost use Rattle.room.specs.Did.{Did, Fits};
 
 use clean_share::share_missing;
-use new_maximum::less;
 use table::lookup::dirty_at;
 use table::orders::write_at;
 use table::runs::listed_len;
@@ -28,18 +27,14 @@ fn write_until(
 {
     let listed = listed_len(table, rows);
     let mut missing = lacked;
-    let mut pos: usize = 0;
     let mut given = before;
-    while pos < listed {
+    for pos in 0..listed {
         if missing == 0 {
             return given;
         }
         if dirty_at(table, rows, pos) {
-            missing = less(missing, write_at(table, orders, rows, pos, given));
+            missing = missing.saturating_sub(write_at(table, orders, rows, pos, given));
             given += 1;
-            pos += 1;
-        } else {
-            pos += 1;
         }
     }
     given

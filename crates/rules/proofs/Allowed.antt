@@ -3,7 +3,8 @@
 use Prim.Native.Nat.{ℕ, zero, suc, ◌-◌, ◌≤◌, ◌<◌}
 use mathlib.Core.Path.{◌≡◌, refl, sym, ap, subst, ◌∙◌}
 use mathlib.Core.Bool.{true, false, not, ◌&&◌, ◌||◌, false≢true}
-use mathlib.Core.Option.{Option, none, some, some-ne-none}
+use Rattle.std.proofs.lemmas.Option.{none-some}
+use Rattle.std.specs.Prelude.{Option, None, Some}
 use mathlib.Core.List.{List, [], ◌∷◌, ◌++◌}
 use native.Mathlib.Omega.{arith}
 use lib.Dec.{eqb, leb, ltb}
@@ -13,10 +14,10 @@ use Rattle.fraction.specs.Examples.{every}
 use Rattle.settings.specs.declared.Settings.{Settings}
 use Rattle.settings.specs.Validation.{first_bad}
 use Rattle.rules.specs.declared.answer.Refusal.{Refusal}
-use Rattle.rules.specs.declared.entry.Row.TheVariants.{Free}
 use Rattle.settings.specs.declared.Mode.{Mode}
 use Rattle.rules.specs.declared.request.Request.{Request}
 use Rattle.rules.specs.declared.request.Request.TheVariants.{Insert, Protect, Release, ReleaseChanged, Pin, Unpin, Resize, Discard, Flush, Sync, Take, Configure}
+use Rattle.rules.specs.Types.{Row}
 use Rattle.rules.specs.Allowed.{Sound, Allowed}
 use Rattle.rules.specs.Cache.{Cache, Work, start, fresh, touch, with_counters}
 use Rattle.rules.specs.Cases.{Setup, opened, later, counting, after, cache_of, is_none, is_valid, Case, AllowedSetups, cases, further, lone, full}
@@ -52,7 +53,7 @@ incoming_range s c k r = room_figures InRange s true (start (flashed s c)) (flas
 released_range : (a : ℕ) (c : Cache) → Sound c → InRange (figures_of c) → InRange (figures_of (room_if_released a c).cache)
 released_range a c k r = subst InRange (sym (moves_figures (released_moves a c k))) r
 
-figures : (c : Cache) (lent : ℕ) (message : List ℕ) (r : Request) → Sound c → first_of (tests c lent message r) ≡ none → InRange (figures_of c)
+figures : (c : Cache) (lent : ℕ) (message : List ℕ) (r : Request) → Sound c → first_of (tests c lent message r) ≡ None → InRange (figures_of c)
     → InRange (figures_of (effect c message r).cache)
 unfolding tests effect
 figures c lent message (Insert a s) k h r =
@@ -115,14 +116,14 @@ step_allowed c call k =
 
 -- ---- opening
 
-length_free : (n : ℕ) → length (replicate n Free) ≡ n
+length_free : (n : ℕ) → length {A = Row} (replicate n None) ≡ n
 length_free zero = refl
 length_free (suc n) = ap (λ m. ℕ.suc m) (length_free n)
 
-pub fresh_allowed : (n : ℕ) (m : Mode) (t : ℕ) (s : Settings) → refusal_of_opening n true (some m) t s ≡ none → Allowed (fresh n m t s)
+pub fresh_allowed : (n : ℕ) (m : Mode) (t : ℕ) (s : Settings) → refusal_of_opening n true (Some m) t s ≡ None → Allowed (fresh n m t s)
 unfolding refusal_of_opening
 fresh_allowed n m t s h =
-    let f = failed (opening_tests n true (some m) t s) h in
+    let f = failed (opening_tests n true (Some m) t s) h in
     let rows = neither (eqb n 0) (ltb most_rows n) (neither (eqb n 0 || ltb most_rows n) (not true) f.0).0 in
     let bytes = neither (eqb t 0) (ltb most_threshold t) f.1.0 in
     let o = passed_opening s (eqb-true (first_bad s true) 0 (not-false _ f.1.1.0)) in
@@ -131,7 +132,7 @@ fresh_allowed n m t s h =
     record {
       some_rows = omega (arith, eqb-false n 0 rows.0);
       rows = omega (arith, ltb-false most_rows n rows.1);
-      entries = λ a e g. absurd (some-ne-none e (sym g ∙ none_free n a));
+      entries = λ a e g. absurd (none-some e (sym (sym g ∙ none_free n a)));
       sound = sound_fresh n m t s;
       some_bytes = omega (arith, eqb-false t 0 bytes.0);
       threshold = ltb-false most_threshold t bytes.1;
@@ -168,9 +169,9 @@ unfolding after
 after_allowed c [] k = k
 after_allowed c (call ∷ rest) k = after_allowed (step c call).cache rest (step_allowed c call k)
 
-none_is : (r : Option Refusal) → is_none r ≡ true → r ≡ none
-none_is none h = refl
-none_is (some r) h = absurd (false≢true h)
+none_is : (r : Option Refusal) → is_none r ≡ true → r ≡ None
+none_is None h = refl
+none_is (Some r) h = absurd (false≢true h)
 
 valid_allowed : (u : Setup) → is_valid u ≡ true → Allowed (cache_of u)
 unfolding is_valid cache_of

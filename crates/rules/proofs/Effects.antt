@@ -3,7 +3,7 @@
 use Prim.Native.Nat.{ℕ, ◌+◌, ◌-◌, ◌*◌, ◌≤◌}
 use mathlib.Core.Path.{◌≡◌, refl, sym, ap, ◌∙◌}
 use mathlib.Core.Bool.{Bool, true, false, not, false≢true}
-use mathlib.Core.Option.{Option, none, some}
+use Rattle.std.specs.Prelude.{Option, None, Some}
 use mathlib.Core.List.{List, [], ◌∷◌}
 use native.Mathlib.Omega.{arith}
 use lib.Dec.{eqb, leb, ltb}
@@ -12,8 +12,7 @@ use borrow.Author.Tests.{eqb-false, leb-false, ltb-false, not-false}
 use Rattle.rules.specs.declared.entry.Entry.{Entry}
 use Rattle.rules.specs.declared.entry.Hold.{Hold}
 use Rattle.rules.specs.declared.entry.Hold.TheVariants.{Unheld, Readers, Writer}
-use Rattle.rules.specs.declared.entry.Row.{Row}
-use Rattle.rules.specs.declared.entry.Row.TheVariants.{Free, Used}
+use Rattle.rules.specs.Types.{Row}
 use Rattle.rules.specs.declared.request.Access.{Access}
 use Rattle.rules.specs.declared.request.Access.TheVariants.{Reading, Writing}
 use Rattle.rules.specs.declared.request.Request.{Request}
@@ -64,7 +63,7 @@ pub record Ready (a s : ℕ) (c : Cache) : Type 0 where
   pub moves : Moves (is_alone c.mode) true (start c) (room_for s c)
   pub sound : Sound (room_for s c).cache
   pub free : has_free (room_for s c).cache.rows ≡ true
-  pub absent : get (room_for s c).cache.rows a ≡ none
+  pub absent : get (room_for s c).cache.rows a ≡ None
 
 pub ready : (a s : ℕ) (c : Cache) → Sound c → is_here c.rows a ≡ false → no_row c ≡ false → Ready a s c
 ready a s c k n f =
@@ -255,7 +254,7 @@ named_sound a s c k = let b = named_books a s c in sound_same c (named a s c) b.
 module _ (a : ℕ) (f : Entry → Entry) (keeps : (e : Entry) → (f e).address ≡ e.address) {c d : Cache} (k : Sound c) (b : SameBooks c d) where
   -- every change of an allowed entry
   abbrev Fits : Type 0
-  Fits = (e : Entry) → get c.rows a ≡ some e → EntryAllowed e → EntryAllowed (f e)
+  Fits = (e : Entry) → get c.rows a ≡ Some e → EntryAllowed e → EntryAllowed (f e)
 
   module _ {came went : ℕ} (fits : Fits) (h : total (λ e. e.size) (amend a f c.rows) + went ≡ held c + came) where
     changes : (l : List ℕ) → Sound (with_rows (amend a f d.rows) l d) → Doing c came went 0 (start (with_rows (amend a f d.rows) l d))
@@ -284,21 +283,21 @@ module _ (a : ℕ) (f : Entry → Entry) (keeps : (e : Entry) → (f e).address 
       omega arith
     where
       go : (o : Option Entry) → passes (λ e. true) o ≡ true → figure_of (λ e. (f e).size) o ≡ s
-      go none p = absurd (false≢true p)
-      go (some e) p = h e
+      go None p = absurd (false≢true p)
+      go (Some e) p = h e
 
 -- a test of the entry found fails
-tested : (test : Entry → Bool) {o : Option Entry} → passes test o ≡ false → (e : Entry) → o ≡ some e → test e ≡ false
+tested : (test : Entry → Bool) {o : Option Entry} → passes test o ≡ false → (e : Entry) → o ≡ Some e → test e ≡ false
 tested test h e g = sym (ap (passes test) g) ∙ h
 
 -- a held entry is not listed, pinned or not
 pin_stays : (o : Option Entry) → passes (λ e. not (is_held e.hold)) o ≡ false → passes (λ e. is_listed (with_pin true e)) o ≡ passes is_listed o
-pin_stays none h = refl
-pin_stays (some e) h = rw h
+pin_stays None h = refl
+pin_stays (Some e) h = rw h
 
 changed_stays : (s : ℕ) (o : Option Entry) → passes (λ e. is_listed (changed_to s e)) o ≡ passes is_listed o
-changed_stays s none = refl
-changed_stays s (some e) = refl
+changed_stays s None = refl
+changed_stays s (Some e) = refl
 
 -- ---- orders of a flush
 
@@ -319,9 +318,9 @@ length_insert a (b ∷ l) = choose (λ (m : List ℕ). length m ≡ length (b �
 length_dirty : (rows : List Row) → length (dirty_rising rows) ≤ length rows
 unfolding dirty_rising
 length_dirty [] = omega arith
-length_dirty (Free ∷ rows) = let ih = length_dirty rows in omega arith
-length_dirty (Used e ∷ rows) =
-    choose (λ (m : List ℕ). length m ≤ length (Used e ∷ rows)) e.dirty
+length_dirty (None ∷ rows) = let ih = length_dirty rows in omega arith
+length_dirty (Some e ∷ rows) =
+    choose (λ (m : List ℕ). length m ≤ length (Some e ∷ rows)) e.dirty
     (λ p. let ih = length_dirty rows in let i = length_insert e.address (dirty_rising rows) in omega arith)
     (λ p. let ih = length_dirty rows in omega arith)
 
@@ -335,7 +334,7 @@ abbrev pub went : Cache → Request → ℕ
 went c r = thrown_away c r + (old_size c r - new_size r)
 
 abbrev Effect : Cache → ℕ → List ℕ → Request → Type 0
-Effect c lent message r = Sound c → first_of (tests c lent message r) ≡ none → Done c (came c r) (went c r) (effect c message r)
+Effect c lent message r = Sound c → first_of (tests c lent message r) ≡ None → Done c (came c r) (went c r) (effect c message r)
 
 -- a further reader, or the first hold
 protect_done : (x : Access) (a s : ℕ) (c : Cache) (lent : ℕ) (message : List ℕ) → Effect c lent message (Protect x a s)

@@ -1,6 +1,6 @@
 -- The figures of a cache stay in range: each change of the maximum is cut to the range of the settings, and the counters
 -- restart when the accesses reach the epoch's length.
-use Rattle.std.specs.Prelude.{if◌then◌else◌}
+use Rattle.std.specs.Prelude.{if◌then◌else◌, None, Some}
 use Prim.Native.Nat.{ℕ, ◌+◌, ◌≤◌, ◌<◌, min, max}
 use mathlib.Core.Path.{◌≡◌, refl, sym, subst}
 use mathlib.Core.Bool.{Bool, true, false, not, ◌&&◌, false≢true}
@@ -10,8 +10,7 @@ use lib.Dec.{leb, ltb}
 use lib.Ieee.{Float, eq}
 use borrow.Author.Tests.{leb-true, leb-false, ltb-true, ltb-false, not-false}
 use Rattle.fraction.specs.Fraction.{decimal, size_product, hit_rate, reserve_quotient, exceeds_share}
-use Rattle.settings.specs.declared.Cap.{Cap}
-use Rattle.settings.specs.declared.Cap.TheVariants as cap
+use Rattle.settings.specs.Types.{Cap}
 use Rattle.settings.specs.declared.Decrease.{Decrease}
 use Rattle.settings.specs.declared.Decrease.TheVariants as decrease
 use Rattle.settings.specs.declared.Flash.{Flash}
@@ -152,8 +151,8 @@ increase_most increase.Off k r full m l h = h
 increase_most (increase.Threshold x y) k r full m l h = choose (λ (n : ℕ). n ≤ l) (is_below r x && full) (λ p. go k) (λ p. h)
   where
     go : (k : Cap) → at_most k m (min (size_product m y) l) ≤ l
-    go cap.None = omega arith
-    go (cap.Upto n) = omega arith
+    go None = omega arith
+    go (Some n) = omega arith
 
 lower_range : (n : ℕ) (w : Work) → Ranged (figures_of w.cache) → Ranged (figures_of (lower n w).cache)
 lower_range n w k =
@@ -161,8 +160,8 @@ lower_range n w k =
     ranged_maximum (lowered_in n w.cache) k (omega arith) (omega arith)
   where
     least : (k : Cap) → w.cache.settings.smallest ≤ at_least k w.cache.maximum (max n w.cache.settings.smallest)
-    least cap.None = omega arith
-    least (cap.Upto m) = omega arith
+    least None = omega arith
+    least (Some m) = omega arith
 
 module _ (w : Work) (k : Sound w.cache) (r : Ranged (figures_of w.cache)) where
   age_out_range : (n : ℕ) (x : Float) → Ranged (figures_of (age_out n x w).cache)

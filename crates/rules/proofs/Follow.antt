@@ -1,17 +1,16 @@
 -- A lead or a standby keeps the ledger: what is evicted there is clean, so each accepted request changes the dirty records and the count
 -- as the ledger says, and a local one not at all.
-use Rattle.std.specs.Prelude.{if◌then◌else◌}
+use Rattle.std.specs.Prelude.{if◌then◌else◌, Option, None, Some, option_map}
 use Prim.Native.Nat.{ℕ, ◌+◌, min}
 use mathlib.Core.Path.{◌≡◌, refl, sym, ap, subst, ◌∙◌}
 use mathlib.Core.Bool.{Bool, true, false, ◌||◌, false≢true}
-use mathlib.Core.Option.{Option, none, some, map}
 use mathlib.Core.List.{List, [], ◌∷◌}
 use lib.Dec.{eqb}
 use borrow.Author.Tests.{eqb-true, not-false}
 use Rattle.rules.specs.declared.entry.Entry.{Entry}
 use Rattle.rules.specs.declared.entry.Hold.{Hold}
 use Rattle.rules.specs.declared.entry.Hold.TheVariants.{Unheld}
-use Rattle.rules.specs.declared.entry.Row.{Row}
+use Rattle.rules.specs.Types.{Row}
 use Rattle.rules.specs.declared.request.Access.{Access}
 use Rattle.rules.specs.declared.request.Request.{Request}
 use Rattle.rules.specs.declared.request.Request.TheVariants.{Insert, Protect, ReleaseChanged, Resize}
@@ -38,8 +37,8 @@ pub same_ledger : {l m : Ledger} → ((b : ℕ) → l.sizes b ≡ m.sizes b) →
 same_ledger p q = λ i. record { sizes = λ b. p b i; count = q i }
 
 pub dirty_in_same : (o : Option Entry) → passes (λ e. e.dirty) o ≡ is_in (dirty_size o)
-dirty_in_same none = refl
-dirty_in_same (some e) = choose (λ (x : Option ℕ). e.dirty ≡ is_in x) e.dirty (λ p. p) (λ p. p)
+dirty_in_same None = refl
+dirty_in_same (Some e) = choose (λ (x : Option ℕ). e.dirty ≡ is_in x) e.dirty (λ p. p) (λ p. p)
 
 sizes_if : (t : Bool) (x y : Option Entry) → dirty_size (if t then x else y) ≡ (if t then dirty_size x else dirty_size y)
 sizes_if true x y = refl
@@ -52,60 +51,60 @@ at_same a b rows q = ap (get rows) (eqb-true a b q)
 -- ---- a change of one entry
 
 module _ (a : ℕ) (f : Entry → Entry) (keeps : (e : Entry) → (f e).address ≡ e.address) where
-  sizes_amend : (g : Option ℕ → Option ℕ) (rows : List Row) → dirty_size (map f (get rows a)) ≡ g (dirty_size (get rows a))
+  sizes_amend : (g : Option ℕ → Option ℕ) (rows : List Row) → dirty_size (option_map f (get rows a)) ≡ g (dirty_size (get rows a))
       → (b : ℕ) → dirty_size (get (amend a f rows) b) ≡ (if eqb a b then g (dirty_size (get rows b)) else dirty_size (get rows b))
   sizes_amend g rows h b =
       rw (get_amend a f keeps b rows)
       (split (eqb a b)
-      (λ q. simp q (subst (λ (x : ℕ). dirty_size (map f (get rows x)) ≡ g (dirty_size (get rows x))) (eqb-true a b q) h))
+      (λ q. simp q (subst (λ (x : ℕ). dirty_size (option_map f (get rows x)) ≡ g (dirty_size (get rows x))) (eqb-true a b q) h))
       (λ q. simp q))
 
   -- its size and its mark stay
-  pub ledger_stays : ((e : Entry) → dirty_size (some (f e)) ≡ dirty_size (some e)) → (l : List ℕ) (c : Cache)
+  pub ledger_stays : ((e : Entry) → dirty_size (Some (f e)) ≡ dirty_size (Some e)) → (l : List ℕ) (c : Cache)
       → ledger_of (with_rows (amend a f c.rows) l c) ≡ ledger_of c
   ledger_stays stays l c = same_ledger (λ b. sizes_amend (λ o. o) c.rows (go (get c.rows a)) b ∙ if_same (eqb a b) _) refl
     where
-      go : (o : Option Entry) → dirty_size (map f o) ≡ dirty_size o
-      go none = refl
-      go (some e) = stays e
+      go : (o : Option Entry) → dirty_size (option_map f o) ≡ dirty_size o
+      go None = refl
+      go (Some e) = stays e
 
   -- it takes a size and is dirty
-  pub ledger_named : (s : ℕ) → ((e : Entry) → dirty_size (some (f e)) ≡ some s) → (l : List ℕ) (c : Cache) → is_here c.rows a ≡ true
+  pub ledger_named : (s : ℕ) → ((e : Entry) → dirty_size (Some (f e)) ≡ Some s) → (l : List ℕ) (c : Cache) → is_here c.rows a ≡ true
       → ledger_of (with_rows (amend a f (named a s c).rows) l (named a s c)) ≡ noted a s (ledger_of c)
   ledger_named s sized l c h =
       same_ledger
-      (λ b. rw (named_books a s c).rows (sizes_amend (λ o. some s) c.rows (go (get c.rows a) h) b))
+      (λ b. rw (named_books a s c).rows (sizes_amend (λ o. Some s) c.rows (go (get c.rows a) h) b))
       (ap (λ (t : Bool). adds t s c.count) (dirty_in_same (get c.rows a)))
     where
-      go : (o : Option Entry) → passes (λ e. true) o ≡ true → dirty_size (map f o) ≡ some s
-      go none p = absurd (false≢true p)
-      go (some e) p = sized e
+      go : (o : Option Entry) → passes (λ e. true) o ≡ true → dirty_size (option_map f o) ≡ Some s
+      go None p = absurd (false≢true p)
+      go (Some e) p = sized e
 
 -- ---- moves
 
-clean_size_same : (e : Entry) → e.dirty ≡ false → dirty_size (some e) ≡ none
+clean_size_same : (e : Entry) → e.dirty ≡ false → dirty_size (Some e) ≡ None
 clean_size_same e d = rw d
 
 pub moves_ledger : {may sets : Bool} {w v : Work} → may ≡ false → Moves may sets w v → ledger_of v.cache ≡ ledger_of w.cache
 moves_ledger h done = refl
 moves_ledger h (evicts {w} a e g l d m) = moves_ledger h m ∙ same_ledger (λ b. rw (get_remove a b w.cache.rows) (go b)) refl
   where
-    go : (b : ℕ) → dirty_size (if eqb a b then none else get w.cache.rows b) ≡ dirty_size (get w.cache.rows b)
+    go : (b : ℕ) → dirty_size (if eqb a b then None else get w.cache.rows b) ≡ dirty_size (get w.cache.rows b)
     go b = split (eqb a b) (λ q. simp q (sym (ap dirty_size (sym (at_same a b w.cache.rows q) ∙ g) ∙ clean_size_same e d))) (λ q. simp q)
 moves_ledger {may} h (writes a e r y g l d s m) = either may y h
 moves_ledger h (tunes n i k y m) = moves_ledger h m
 moves_ledger h (notes b m) = moves_ledger h m
 moves_ledger h (ages {w} y m) = moves_ledger h m ∙ same_ledger (λ b. rw (get_amend_all older (λ e. refl) b w.cache.rows) (go (get w.cache.rows b))) refl
   where
-    go : (o : Option Entry) → dirty_size (map older o) ≡ dirty_size o
-    go none = refl
-    go (some e) = refl
+    go : (o : Option Entry) → dirty_size (option_map older o) ≡ dirty_size o
+    go None = refl
+    go (Some e) = refl
 
 -- ---- an entry comes
 
-module _ (a s : ℕ) (c : Cache) (host : is_alone c.mode ≡ false) (gone : get c.rows a ≡ none) (r : Ready a s c) where
+module _ (a s : ℕ) (c : Cache) (host : is_alone c.mode ≡ false) (gone : get c.rows a ≡ None) (r : Ready a s c) where
   new_sizes : (d : Bool) (h : Hold) (b : ℕ) → dirty_size (get (place (new_entry a s d h) (room_for s c).cache.rows) b)
-      ≡ (if eqb a b then (if d then some s else none) else dirty_size (get c.rows b))
+      ≡ (if eqb a b then (if d then Some s else None) else dirty_size (get c.rows b))
   new_sizes d h b =
       rw (get_place (new_entry a s d h) b (room_for s c).cache.rows r.free r.absent)
       (split (eqb a b) (λ q. simp q) (λ q. simp q (ap (λ l. l.sizes b) (moves_ledger host r.moves))))
@@ -123,7 +122,7 @@ module _ (a s : ℕ) (c : Cache) (host : is_alone c.mode ≡ false) (gone : get 
 -- ---- shared changes and local requests
 
 module _ (c : Cache) (lent : ℕ) (message : List ℕ) (k : Sound c) (host : is_alone c.mode ≡ false) where
-  pub shared_follows : {r : Request} (x : Shared r) → first_of (tests c lent message r) ≡ none → ledger_of (effect c message r).cache ≡ hear x (ledger_of c)
+  pub shared_follows : {r : Request} (x : Shared r) → first_of (tests c lent message r) ≡ None → ledger_of (effect c message r).cache ≡ hear x (ledger_of c)
   unfolding tests effect hear
   shared_follows (insert a s) e =
       let f = failed (tests c lent message (Insert a s)) e in
@@ -137,9 +136,9 @@ module _ (c : Cache) (lent : ℕ) (message : List ℕ) (k : Sound c) (host : is_
   shared_follows (resize a s) e =
       let f = failed (tests c lent message (Resize a s)) e in
       ledger_named a (changed_to s) (λ e. refl) s (λ e. refl) (named a s c).recency c (not-false _ f.1.1.0)
-  shared_follows (discard a) e = same_ledger (λ b. rw (get_remove a b c.rows) (sizes_if (eqb a b) none (get c.rows b))) refl
+  shared_follows (discard a) e = same_ledger (λ b. rw (get_remove a b c.rows) (sizes_if (eqb a b) None (get c.rows b))) refl
 
-  pub local_keeps : {r : Request} → Local r → first_of (tests c lent message r) ≡ none → ledger_of (effect c message r).cache ≡ ledger_of c
+  pub local_keeps : {r : Request} → Local r → first_of (tests c lent message r) ≡ None → ledger_of (effect c message r).cache ≡ ledger_of c
   unfolding tests effect
   local_keeps (protect x a s) e =
       let f = failed (tests c lent message (Protect x a s)) e in
@@ -162,22 +161,22 @@ module _ (c : Cache) (lent : ℕ) (message : List ℕ) (k : Sound c) (host : is_
 
 -- ---- lists
 
-cleaned_size : (o : Option Entry) → dirty_size (map cleaned o) ≡ none
-cleaned_size none = refl
-cleaned_size (some e) = refl
+cleaned_size : (o : Option Entry) → dirty_size (option_map cleaned o) ≡ None
+cleaned_size None = refl
+cleaned_size (Some e) = refl
 
-pub sizes_cleaned : (a : ℕ) (rows : List Row) (b : ℕ) → dirty_size (get (amend a cleaned rows) b) ≡ (if eqb a b then none else dirty_size (get rows b))
-sizes_cleaned a rows = sizes_amend a cleaned (λ e. refl) (λ o. none) rows (cleaned_size (get rows a))
+pub sizes_cleaned : (a : ℕ) (rows : List Row) (b : ℕ) → dirty_size (get (amend a cleaned rows) b) ≡ (if eqb a b then None else dirty_size (get rows b))
+sizes_cleaned a rows = sizes_amend a cleaned (λ e. refl) (λ o. None) rows (cleaned_size (get rows a))
 
-sizes_each : (list : List ℕ) (rows : List Row) (b : ℕ) → dirty_size (get (amend_each list cleaned rows) b) ≡ (if names list b then none else dirty_size (get rows b))
+sizes_each : (list : List ℕ) (rows : List Row) (b : ℕ) → dirty_size (get (amend_each list cleaned rows) b) ≡ (if names list b then None else dirty_size (get rows b))
 unfolding names amend_each
 sizes_each [] rows b = refl
 sizes_each (a ∷ list) rows b =
     sizes_each list (amend a cleaned rows) b
     ∙ rw (sizes_cleaned a rows b) (go (eqb a b) (names list b) (dirty_size (get rows b)))
   where
-    go : (s t : Bool) (o : Option ℕ) → (if t then none else (if s then none else o)) ≡ (if s || t then none else o)
-    go true t o = if_same t none
+    go : (s t : Bool) (o : Option ℕ) → (if t then None else (if s then None else o)) ≡ (if s || t then None else o)
+    go true t o = if_same t None
     go false t o = refl
 
 pub takes_list : (list : List ℕ) (c : Cache) → ledger_of (clean_each list c) ≡ hear_list list (ledger_of c)

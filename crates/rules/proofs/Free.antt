@@ -1,16 +1,15 @@
 -- A row is free once room has been made: a loop that wants a row ends when one is free or when nothing is left to turn to, and before
 -- that it has evicted an entry if there was one to evict.
-use Rattle.std.specs.Prelude.{if◌then◌else◌}
+use Rattle.std.specs.Prelude.{if◌then◌else◌, Option, None, Some, option_map}
 use Prim.Native.Nat.{ℕ, ◌*◌}
 use mathlib.Core.Path.{◌≡◌, refl, sym, ap, subst, ◌∙◌}
 use mathlib.Core.Bool.{Bool, true, false, not, ◌&&◌, ◌||◌, true≢false}
-use mathlib.Core.Option.{Option, none, some, map, some-ne-none}
+use Rattle.std.proofs.lemmas.Option.{none-some}
 use mathlib.Core.List.{List, [], ◌∷◌, ◌++◌}
 use lib.ListN.{length}
 use borrow.Author.Tests.{not-false}
 use Rattle.rules.specs.declared.entry.Entry.{Entry}
-use Rattle.rules.specs.declared.entry.Row.{Row}
-use Rattle.rules.specs.declared.entry.Row.TheVariants.{Free, Used}
+use Rattle.rules.specs.Types.{Row}
 use Rattle.settings.specs.declared.Mode.{Mode}
 use Rattle.settings.specs.declared.Mode.TheVariants.{Alone, Lead, Standby}
 use Rattle.rules.specs.Addresses.{elem, nearest, some_address}
@@ -33,8 +32,8 @@ use Rattle.rules.proofs.Tests.{split, choose, or_true, or_false, and_true}
 free_all : (f : Entry → Entry) (rows : List Row) → has_free (amend_all f rows) ≡ has_free rows
 unfolding amend_all has_free
 free_all f [] = refl
-free_all f (Free ∷ rows) = refl
-free_all f (Used e ∷ rows) = free_all f rows
+free_all f (None ∷ rows) = refl
+free_all f (Some e ∷ rows) = free_all f rows
 
 free_moves : {may sets : Bool} {w v : Work} → Moves may sets w v → has_free w.cache.rows ≡ true → has_free v.cache.rows ≡ true
 free_moves done h = h
@@ -47,8 +46,8 @@ free_moves (ages {w} y m) h = free_moves m (free_all older w.cache.rows ∙ h)
 -- ---- a loop that wants a row
 
 abbrev is_some : Option Work → Bool
-is_some none = false
-is_some (some w) = true
+is_some None = false
+is_some (Some w) = true
 
 -- a row is free, or there is a turn
 abbrev Gives : (Work → Option Work) → Work → Type 0
@@ -60,7 +59,7 @@ not_lacking over false h = absurd (true≢false (sym (or_true over) ∙ h))
 
 -- after a turn a row is free or there is a turn again
 abbrev Onward : (Work → Option Work) → Type 0
-Onward turn = (w u : Work) → Sound w.cache → turn w ≡ some u → Gives turn u
+Onward turn = (w u : Work) → Sound w.cache → turn w ≡ Some u → Gives turn u
 
 module _ (x : ℕ) {may : Bool} {turn : Work → Option Work} (turning : Turning may false turn) (onward : Onward turn) where
   free_while : {w v : Work} → While (λ w. lacking x true w.cache) turn w v → Sound w.cache → Gives turn w → has_free v.cache.rows ≡ true
@@ -84,15 +83,15 @@ tail_gives w u k = go w.cache.recency refl
         (λ d. rw (head l a (write a (l ++ a ∷ []) w)) (or_true (has_free _)))
         (λ d. rw (free_removed is_listed a w.cache.rows (sym (k.listed a) ∙ ap (elem a) e ∙ elem_first a l)))
 
-    go : (l : List ℕ) → w.cache.recency ≡ l → look_at_tail l w ≡ some u → Gives tail_turn u
-    go [] e n = absurd (some-ne-none u (sym n))
+    go : (l : List ℕ) → w.cache.recency ≡ l → look_at_tail l w ≡ Some u → Gives tail_turn u
+    go [] e n = absurd (none-some u n)
     go (a ∷ l) e n =
         let same : (if dirty_at w.cache.rows a then write a (l ++ a ∷ []) w else evict a w) ≡ u = cc in
         subst (Gives tail_turn) same (looked a l e)
 
 -- ---- lead and standby
 
-nearest_some : (test : ℕ → Bool) (l : List ℕ) (w : Work) → is_some (map (λ a. evict a w) (nearest test l)) ≡ some_address test l
+nearest_some : (test : ℕ → Bool) (l : List ℕ) (w : Work) → is_some (option_map (λ a. evict a w) (nearest test l)) ≡ some_address test l
 unfolding nearest some_address
 nearest_some test [] w = refl
 nearest_some test (a ∷ l) w = split (test a) (λ p. rw p) (λ p. rw p (nearest_some test l w))
@@ -100,9 +99,9 @@ nearest_some test (a ∷ l) w = split (test a) (λ p. rw p) (λ p. rw p (nearest
 clean_gives : Onward clean_turn
 clean_gives w u k = go (nearest (clean_at w.cache.rows) w.cache.recency) refl
   where
-    go : (o : Option ℕ) → nearest (clean_at w.cache.rows) w.cache.recency ≡ o → map (λ a. evict a w) o ≡ some u → Gives clean_turn u
-    go none e n = absurd (some-ne-none u (sym n))
-    go (some a) e n =
+    go : (o : Option ℕ) → nearest (clean_at w.cache.rows) w.cache.recency ≡ o → option_map (λ a. evict a w) o ≡ Some u → Gives clean_turn u
+    go None e n = absurd (none-some u n)
+    go (Some a) e n =
         let same : evict a w ≡ u = cc in
         subst (Gives clean_turn) same (rw (free_removed is_clean a w.cache.rows (nearest_in (clean_at w.cache.rows) a w.cache.recency e).1))
 

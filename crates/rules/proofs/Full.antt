@@ -1,11 +1,11 @@
 -- What is stored of "full" is what happened: since the counters last restarted, some making of room found held plus incoming above the maximum.
 -- And making room finds it at its start if it finds it at any turn.
-use Rattle.std.specs.Prelude.{if◌then◌else◌}
+use Rattle.std.specs.Prelude.{if◌then◌else◌, Option, None, Some, option_map}
 use Prim.Native.Nat.{ℕ, zero, suc, ◌+◌, ◌≤◌}
 use mathlib.Core.Bool.{Bool, true, false, ◌&&◌, ◌||◌}
 use mathlib.Core.List.{List, [], ◌∷◌, ◌++◌}
-use mathlib.Core.Option.{Option, none, some, map, some-ne-none}
-use mathlib.Core.Path.{◌≡◌, refl, sym, ap, subst, ◌∙◌}
+use Rattle.std.proofs.lemmas.Option.{none-some}
+use mathlib.Core.Path.{◌≡◌, refl, ap, subst, ◌∙◌}
 use native.Mathlib.Nat.{le_refl}
 use native.Mathlib.Omega.{arith}
 use lib.Dec.{leb, ltb}
@@ -44,31 +44,31 @@ use Rattle.rules.proofs.Tests.{split, choose}
 abbrev Leaves : Work → Work → Type 0
 Leaves w v = v.cache.exceeded ≡ w.cache.exceeded
 
-turns_leave : (turn : Work → Option Work) → ((w u : Work) → turn w ≡ some u → Leaves w u) → (n x : ℕ) (row : Bool) (w : Work) → Leaves w (turns n turn x row w)
+turns_leave : (turn : Work → Option Work) → ((w u : Work) → turn w ≡ Some u → Leaves w u) → (n x : ℕ) (row : Bool) (w : Work) → Leaves w (turns n turn x row w)
 unfolding turns
 turns_leave turn g zero x row w = refl
 turns_leave turn g (suc n) x row w =
     turns_leave turn g n x row _ ∙ choose (λ (v : Work). Leaves w v) (lacking x row w.cache) (λ h. go (turn w) refl) (λ h. refl)
   where
     go : (o : Option Work) → turn w ≡ o → Leaves w (or_stay o w)
-    go none e = refl
-    go (some u) e = g w u e
+    go None e = refl
+    go (Some u) e = g w u e
 
-tail_leaves : (w u : Work) → tail_turn w ≡ some u → Leaves w u
+tail_leaves : (w u : Work) → tail_turn w ≡ Some u → Leaves w u
 tail_leaves w u = go (recency_list w.cache)
   where
-    go : (l : List ℕ) → look_at_tail l w ≡ some u → Leaves w u
-    go [] n = absurd (some-ne-none u (sym n))
+    go : (l : List ℕ) → look_at_tail l w ≡ Some u → Leaves w u
+    go [] n = absurd (none-some u n)
     go (a ∷ l) n =
         let same : (if dirty_at w.cache.rows a then write a (l ++ a ∷ []) w else evict a w) ≡ u = cc in
         subst (Leaves w) same (choose (Leaves w) (dirty_at w.cache.rows a) (λ h. refl) (λ h. refl))
 
-clean_leaves : (w u : Work) → clean_turn w ≡ some u → Leaves w u
+clean_leaves : (w u : Work) → clean_turn w ≡ Some u → Leaves w u
 clean_leaves w u = go (nearest (clean_at w.cache.rows) (recency_list w.cache))
   where
-    go : (o : Option ℕ) → map (λ a. evict a w) o ≡ some u → Leaves w u
-    go none n = absurd (some-ne-none u (sym n))
-    go (some a) n = let same : evict a w ≡ u = cc in subst (Leaves w) same refl
+    go : (o : Option ℕ) → option_map (λ a. evict a w) o ≡ Some u → Leaves w u
+    go None n = absurd (none-some u n)
+    go (Some a) n = let same : evict a w ≡ u = cc in subst (Leaves w) same refl
 
 dirty_leaves : (x : ℕ) (l : List ℕ) (w : Work) → Leaves w (write_dirty x l w)
 unfolding write_dirty

@@ -1,16 +1,15 @@
 -- What is written was dirty, what is evicted was clean and listed, and the orders account for all that a request did to the entries before
 -- its last step: each move gives its own order, and a load another.
-use Rattle.std.specs.Prelude.{if◌then◌else◌}
+use Rattle.std.specs.Prelude.{if◌then◌else◌, Option, None, Some, option_map, unwrap_or}
 use Prim.Native.Nat.{ℕ}
 use mathlib.Core.Path.{◌≡◌, refl, sym, ap, ap₂, subst, fun_ext, ◌∙◌}
 use mathlib.Core.Bool.{Bool, true, false, false≢true, true≢false}
-use mathlib.Core.Option.{Option, none, some, map, get_or}
 use mathlib.Core.List.{List, [], ◌∷◌, ◌++◌, append_assoc, append-nil}
 use lib.Dec.{eqb}
 use borrow.Author.Tests.{eqb-true}
 use Rattle.rules.specs.declared.entry.Entry.{Entry}
 use Rattle.rules.specs.declared.entry.Hold.TheVariants.{Unheld}
-use Rattle.rules.specs.declared.entry.Row.{Row}
+use Rattle.rules.specs.Types.{Row}
 use Rattle.rules.specs.declared.order.Kind.{Kind}
 use Rattle.rules.specs.declared.order.Order.{Order}
 use Rattle.rules.specs.declared.request.Access.{Access}
@@ -41,21 +40,21 @@ use Rattle.rules.proofs.Tests.{split, neither}
 
 -- the entries of rows by address
 abbrev view : List Row → View
-view rows = λ a. map standing (get rows a)
+view rows = λ a. option_map standing (get rows a)
 
-stands_if : (t : Bool) (x y : Option Entry) → map standing (if t then x else y) ≡ (if t then map standing x else map standing y)
+stands_if : (t : Bool) (x y : Option Entry) → option_map standing (if t then x else y) ≡ (if t then option_map standing x else option_map standing y)
 stands_if true x y = refl
 stands_if false x y = refl
 
-view_remove : (a : ℕ) (rows : List Row) → at a none (view rows) ≡ view (remove a rows)
-view_remove a rows = fun_ext (λ b. rw (get_remove a b rows) (sym (stands_if (eqb a b) none (get rows b))))
+view_remove : (a : ℕ) (rows : List Row) → at a None (view rows) ≡ view (remove a rows)
+view_remove a rows = fun_ext (λ b. rw (get_remove a b rows) (sym (stands_if (eqb a b) None (get rows b))))
 
-view_place : (e : Entry) (rows : List Row) → has_free rows ≡ true → get rows e.address ≡ none → at e.address (some (standing e)) (view rows) ≡ view (place e rows)
-view_place e rows h n = fun_ext (λ b. rw (get_place e b rows h n) (sym (stands_if (eqb e.address b) (some e) (get rows b))))
+view_place : (e : Entry) (rows : List Row) → has_free rows ≡ true → get rows e.address ≡ None → at e.address (Some (standing e)) (view rows) ≡ view (place e rows)
+view_place e rows h n = fun_ext (λ b. rw (get_place e b rows h n) (sym (stands_if (eqb e.address b) (Some e) (get rows b))))
 
 -- an entry that was written
-view_clean : (a : ℕ) (e : Entry) (rows : List Row) → get rows a ≡ some e
-    → at a (some (record { size = size_at rows a; dirty = false; listed = is_listed e })) (view rows) ≡ view (amend a cleaned rows)
+view_clean : (a : ℕ) (e : Entry) (rows : List Row) → get rows a ≡ Some e
+    → at a (Some (record { size = size_at rows a; dirty = false; listed = is_listed e })) (view rows) ≡ view (amend a cleaned rows)
 view_clean a e rows g =
     fun_ext (λ b. rw (get_amend a cleaned (λ e. refl) b rows)
     (split (eqb a b) (λ q. simp (q, ← ap (get rows) (eqb-true a b q), g)) (λ q. simp q)))
@@ -105,17 +104,17 @@ moves_lead (tunes {w} n h k y m) = leads_trans (leads_same w (tuned n h k w) ref
 moves_lead (notes {w} b m) = leads_trans (leads_same w (noted b w) refl refl) (moves_lead m)
 moves_lead (ages {w} y m) = leads_trans (leads_same w (idled w) refl (fun_ext (λ b. rw (get_amend_all older (λ e. refl) b w.cache.rows) (go (get w.cache.rows b))))) (moves_lead m)
   where
-    go : (o : Option Entry) → map standing o ≡ map standing (map older o)
-    go none = refl
-    go (some e) = refl
+    go : (o : Option Entry) → option_map standing o ≡ option_map standing (option_map older o)
+    go None = refl
+    go (Some e) = refl
 
 -- ---- a load
 
-load_leads : (x : Access) (a s : ℕ) (w : Work) → has_free w.cache.rows ≡ true → get w.cache.rows a ≡ none → Leads w (loaded x a s w)
+load_leads : (x : Access) (a s : ℕ) (w : Work) → has_free w.cache.rows ≡ true → get w.cache.rows a ≡ None → Leads w (loaded x a s w)
 load_leads x a s w h n =
     leads_one (record { kind = Kind.Load; address = a; size = s }) refl (view_place (new_entry a s false (joined x Unheld)) w.cache.rows h n)
-    (λ k. load a s (rw n) (subst (λ (l : Bool). Given (at a (some (record { size = s; dirty = false; listed = l })) (view_of w.cache)) []
-    (at a (some (standing (new_entry a s false (joined x Unheld)))) (view_of w.cache))) (unlisted x) k))
+    (λ k. load a s (rw n) (subst (λ (l : Bool). Given (at a (Some (record { size = s; dirty = false; listed = l })) (view_of w.cache)) []
+    (at a (Some (standing (new_entry a s false (joined x Unheld)))) (view_of w.cache))) (unlisted x) k))
   where
     unlisted : (x : Access) → is_listed (new_entry a s false (joined x Unheld)) ≡ false
     unlisted Reading = refl
@@ -127,16 +126,16 @@ load_leads x a s w h n =
 size_cleaned : (a b : ℕ) (rows : List Row) → size_at (amend a cleaned rows) b ≡ size_at rows b
 size_cleaned a b rows = rw (get_amend a cleaned (λ e. refl) b rows) (split (eqb a b) (λ q. simp q (go (get rows b))) (λ q. simp q))
   where
-    go : (o : Option Entry) → get_or (map (λ e. e.size) (map cleaned o)) 0 ≡ get_or (map (λ e. e.size) o) 0
-    go none = refl
-    go (some e) = refl
+    go : (o : Option Entry) → unwrap_or (option_map (λ e. e.size) (option_map cleaned o)) 0 ≡ unwrap_or (option_map (λ e. e.size) o) 0
+    go None = refl
+    go (Some e) = refl
 
 writes_cleaned : (a : ℕ) (rows : List Row) (l : List ℕ) → writes_of (amend a cleaned rows) l ≡ writes_of rows l
 writes_cleaned a rows [] = refl
 writes_cleaned a rows (b ∷ l) =
     ap₂ (λ (n : ℕ) (r : List Order). record { kind = Kind.Write; address = b; size = n } ∷ r) (size_cleaned a b rows) (writes_cleaned a rows l)
 
-write_first : (a : ℕ) (e : Entry) (rows : List Row) → get rows a ≡ some e → e.dirty ≡ true → {m : List Order} {u : View} → Given (view (amend a cleaned rows)) m u
+write_first : (a : ℕ) (e : Entry) (rows : List Row) → get rows a ≡ Some e → e.dirty ≡ true → {m : List Order} {u : View} → Given (view (amend a cleaned rows)) m u
     → Given (view rows) (record { kind = Kind.Write; address = a; size = size_at rows a } ∷ m) u
 write_first a e rows g d {m} {u} k =
     write {v = view rows} a (size_at rows a) (is_listed e) (rw (g, d)) (subst (λ (v : View). Given v m u) (sym (view_clean a e rows g)) k)
@@ -165,13 +164,13 @@ started : {c : Cache} {w : Work} → Leads (start c) w → Given (view_of c) w.o
 started {c} {w} l = subst (λ (m : List Order). Given (view_of c) m (view_of w.cache)) (sym l.orders) l.given
 
 -- the view before the new entry is placed
-before_insert : (a s : ℕ) (w : Work) → has_free w.cache.rows ≡ true → get w.cache.rows a ≡ none → view_of w.cache ≡ at a none (view_of (inserted a s w).cache)
+before_insert : (a s : ℕ) (w : Work) → has_free w.cache.rows ≡ true → get w.cache.rows a ≡ None → view_of w.cache ≡ at a None (view_of (inserted a s w).cache)
 before_insert a s w h n =
     fun_ext (λ b. rw (get_place (new_entry a s true Unheld) b w.cache.rows h n)
     (split (eqb a b) (λ q. simp (q, ← ap (get w.cache.rows) (eqb-true a b q), n)) (λ q. simp q)))
 
 module _ (c : Cache) (lent : ℕ) (message : List ℕ) (k : Sound c) where
-  orders_given : (r : Request) → first_of (tests c lent message r) ≡ none → OrdersGiven (can_order r) c r (judged none c (effect c message r))
+  orders_given : (r : Request) → first_of (tests c lent message r) ≡ None → OrdersGiven (can_order r) c r (judged None c (effect c message r))
   unfolding tests effect
   orders_given (Insert a s) e =
       let f = failed (tests c lent message (Insert a s)) e in

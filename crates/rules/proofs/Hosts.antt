@@ -4,7 +4,8 @@
 use Prim.Native.Nat.{ℕ, suc, ◌≤◌}
 use mathlib.Core.Path.{◌≡◌, refl, sym, ap, ap₂, subst, ◌∙◌}
 use mathlib.Core.Bool.{Bool, true, false, not, ◌&&◌, ◌||◌, false≢true, true≢false}
-use mathlib.Core.Option.{Option, none, some, some-ne-none}
+use Rattle.std.proofs.lemmas.Option.{none-some}
+use Rattle.std.specs.Prelude.{Option, None, Some, Err}
 use mathlib.Core.List.{List, [], ◌∷◌}
 use native.Mathlib.Numerals.{add-one}
 use native.Mathlib.Omega.{arith}
@@ -12,11 +13,9 @@ use lib.Dec.{eqb}
 use lib.ListN.{length, length-map}
 use borrow.Author.Tests.{eqb-true, eqb-false, eq-eqb, ne_eqb, not-false}
 use Rattle.settings.specs.declared.Settings.{Settings}
-use Rattle.rules.specs.declared.answer.Answer.TheVariants.{Refused}
 use Rattle.rules.specs.declared.answer.Refusal.TheVariants as refusal
 use Rattle.rules.specs.declared.entry.Entry.{Entry}
-use Rattle.rules.specs.declared.entry.Row.{Row}
-use Rattle.rules.specs.declared.entry.Row.TheVariants.{Free, Used}
+use Rattle.rules.specs.Types.{Row}
 use Rattle.settings.specs.declared.Mode.{Mode}
 use Rattle.settings.specs.declared.Mode.TheVariants.{Alone, Lead, Standby}
 use Rattle.rules.specs.declared.request.Request.{Request}
@@ -124,13 +123,13 @@ module _ {m : Mode} (host : is_alone m ≡ false) {t : ℕ} {c : Cache} {k : Hea
 -- ---- lists
 
 -- what is found at an address has it
-get_address : (rows : List Row) (a : ℕ) (e : Entry) → get rows a ≡ some e → e.address ≡ a
+get_address : (rows : List Row) (a : ℕ) (e : Entry) → get rows a ≡ Some e → e.address ≡ a
 unfolding get
-get_address [] a e g = absurd (some-ne-none e (sym g))
-get_address (Free ∷ rows) a e g = get_address rows a e g
-get_address (Used x ∷ rows) a e g =
+get_address [] a e g = absurd (none-some e g)
+get_address (None ∷ rows) a e g = get_address rows a e g
+get_address (Some x ∷ rows) a e g =
     split (eqb x.address a)
-    (λ p. let q : some x ≡ some e = simp p at g in let s : x ≡ e = cc in sym (ap (λ e. e.address) s) ∙ eqb-true x.address a p)
+    (λ p. let q : Some x ≡ Some e = simp p at g in let s : x ≡ e = cc in sym (ap (λ e. e.address) s) ∙ eqb-true x.address a p)
     (λ p. get_address rows a e (simp p at g))
 
 -- a list that the standby can take: no address twice, none all ones, each of a dirty record
@@ -143,13 +142,13 @@ no_ones : (c : Cache) → Allowed c → dirty_at c.rows all_ones ≡ false
 no_ones c k = go (get c.rows all_ones) refl
   where
     go : (o : Option Entry) → get c.rows all_ones ≡ o → passes (λ e. e.dirty) o ≡ false
-    go none g = refl
-    go (some e) g =
+    go None g = refl
+    go (Some e) g =
         absurd (true≢false (sym (ap (λ (x : ℕ). eqb x all_ones) (get_address c.rows all_ones e g)) ∙ (k.entries all_ones e g).address))
 
 -- ---- opening, a message sent, a message taken
 
-opens : {m : Mode} {t : ℕ} (n : ℕ) (s : Settings) → refusal_of_opening n true (some m) t s ≡ none → Host m t (fresh n m t s) (record { ledger = blank; next = 1 })
+opens : {m : Mode} {t : ℕ} (n : ℕ) (s : Settings) → refusal_of_opening n true (Some m) t s ≡ None → Host m t (fresh n m t s) (record { ledger = blank; next = 1 })
 opens {m} {t} n s h = record {
   says = same_ledger (λ b. ap dirty_size (none_free n b)) refl;
   next = refl;
@@ -159,7 +158,7 @@ opens {m} {t} n s h = record {
 }
 
 -- of a host that is not alone, only the lead accepts a flush or a sync, and only while a number is left
-leads_by : {r : Request} → Sends r → (c : Cache) (lent : ℕ) (message : List ℕ) → first_of (tests c lent message r) ≡ none → is_alone c.mode ≡ false
+leads_by : {r : Request} → Sends r → (c : Cache) (lent : ℕ) (message : List ℕ) → first_of (tests c lent message r) ≡ None → is_alone c.mode ≡ false
     → (is_lead c.mode ≡ true) × (eqb c.next 0 ≡ false)
 unfolding tests
 leads_by flush c lent message e i = let f = failed (tests c lent message Flush) e in go c.mode i f.1.0 f.1.1.1.0
@@ -198,7 +197,7 @@ module _ {m : Mode} (host : is_alone m ≡ false) {t : ℕ} {c : Cache} {k : Hea
         s.ledger,
         record {
           once = s.once;
-          address = split (elem all_ones (sent_by (judged none c (effect c call.message call.request))))
+          address = split (elem all_ones (sent_by (judged None c (effect c call.message call.request))))
               (λ p. absurd (true≢false (sym (s.dirty all_ones p) ∙ no_ones c h.allowed))) (λ p. p);
           dirty = λ b i. sym (dirty_in_same (get c.rows b)) ∙ s.dirty b i;
         },
@@ -480,17 +479,17 @@ not_next_told i j h =
     (λ p. rw (p, ne_eqb (suc i) (suc j) (omega arith)) (or_true (eqb (suc j) 0)))
 
 refused_again : {t : ℕ} {c : Cache} {k : Heard} {j : ℕ} → Host Standby t c k → k.next ≡ next_after j → (message : List ℕ) (i lent : ℕ) → number_in (read_message message) ≡ suc i → suc i ≤ j
-    → (step c (asking Take message lent)).answer ≡ Refused refusal.Number
+    → (step c (asking Take message lent)).answer ≡ Err refusal.Number
 unfolding step refusal_of tests first_of
 refused_again {j = j} b e message i lent n h = rw (is_right (read_message message) i n, b.mode, b.next, e, not_next_told i j h)
 
 each_refused : {t : ℕ} {c : Cache} {k : Heard} {j : ℕ} → Host Standby t c k → k.next ≡ next_after j → (lent : ℕ) (l : List (List ℕ)) → InOrder l → length l ≤ j
-    → Each (λ message. (step c (asking Take message lent)).answer ≡ Refused refusal.Number) l
+    → Each (λ message. (step c (asking Take message lent)).answer ≡ Err refusal.Number) l
 each_refused b e lent [] o h = tt
 each_refused {j = j} b e lent (message ∷ earlier) o h =
     (refused_again {j = j} b e message (length earlier) lent (o.0 ∙ add-one _) (omega arith), each_refused {j = j} b e lent earlier o.1 (omega arith))
 
 pub sent_before : {t : ℕ} {h : Pair Cache} {l : Ledger} (run : Run t h l settled) (lent : ℕ)
-    → Each (λ message. (step (at two h) (asking Take message lent)).answer ≡ Refused refusal.Number) (sent_in run)
+    → Each (λ message. (step (at two h) (asking Take message lent)).answer ≡ Err refusal.Number) (sent_in run)
 sent_before run lent =
     each_refused {j = length (taken_in run)} ((run_keeps run).hosts.host two) refl lent (sent_in run) (in_order run) (let e = ap length (through run) in omega arith)

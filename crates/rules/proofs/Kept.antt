@@ -1,11 +1,10 @@
 -- What no request changes, and what uses up a number. An accepted request leaves a sound cache with its threshold, rows and mode, and a
 -- refused one the cache as it was.
-use Rattle.std.specs.Prelude.{if◌then◌else◌}
+use Rattle.std.specs.Prelude.{if◌then◌else◌, None}
 use Prim.Native.Nat.{ℕ, ◌+◌, ◌*◌, ◌≤◌}
 use mathlib.Core.Path.{◌≡◌, refl, ◌∙◌}
 use mathlib.Core.Bool.{true, false}
 use mathlib.Core.List.{List}
-use mathlib.Core.Option.{none}
 use native.Mathlib.Omega.{arith}
 use lib.ListN.{length}
 use Rattle.settings.specs.declared.Mode.{Mode}
@@ -39,7 +38,7 @@ module _ (c : Cache) (lent : ℕ) (message : List ℕ) (k : Sound c) where
   named_stays : (a s : ℕ) → Stays c (named a s c)
   named_stays a s = let b = named_books a s c in (b.mode, b.next)
 
-  after : (r : Request) → first_of (tests c lent message r) ≡ none → After c r (effect c message r).cache
+  after : (r : Request) → first_of (tests c lent message r) ≡ None → After c r (effect c message r).cache
   unfolding tests effect
   after (Insert a s) h =
       let f = failed (tests c lent message (Insert a s)) h in

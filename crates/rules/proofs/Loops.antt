@@ -1,17 +1,16 @@
 -- The passes of making room and of sync are document 01's while loops: a pass goes on while its test holds, turns to the entry that the
 -- loop would turn to, and ends when none is left.
-use Rattle.std.specs.Prelude.{if◌then◌else◌}
+use Rattle.std.specs.Prelude.{if◌then◌else◌, Option, None, Some, option_map}
 use Prim.Native.Nat.{ℕ, zero, suc, ◌+◌, ◌*◌, ◌≤◌}
 use mathlib.Core.Path.{◌≡◌, refl, sym, ap, subst, ◌∙◌}
 use mathlib.Core.Bool.{Bool, true, false, not, ◌&&◌, false≢true}
-use mathlib.Core.Option.{Option, none, some, map}
 use mathlib.Core.List.{List, [], ◌∷◌, ◌++◌, append_assoc}
 use native.Mathlib.Omega.{arith}
 use lib.Dec.{eqb}
 use lib.ListN.{length}
 use borrow.Author.Tests.{eqb-true, eq-eqb}
 use Rattle.rules.specs.declared.entry.Entry.{Entry}
-use Rattle.rules.specs.declared.entry.Row.{Row}
+use Rattle.rules.specs.Types.{Row}
 use Rattle.rules.specs.Addresses.{elem, nearest}
 use Rattle.rules.specs.Allowed.{Sound}
 use Rattle.rules.specs.Cache.{Work}
@@ -62,16 +61,16 @@ Onward test act = (a : ℕ) (d l : List ℕ) (w : Work) → At test d (a ∷ l) 
 
 module _ (on : Work → Bool) (test : Work → ℕ → Bool) (act : ℕ → Work → Work) where
   abbrev turn : Work → Option Work
-  turn w = map (λ a. act a w) (nearest (test w) w.cache.recency)
+  turn w = option_map (λ a. act a w) (nearest (test w) w.cache.recency)
 
   sweep_rests : (l : List ℕ) (w : Work) → on w ≡ false → sweep on test act l w ≡ w
   unfolding sweep
   sweep_rests [] w h = refl
   sweep_rests (a ∷ l) w h = rw h (sweep_rests l w h)
 
-  turn_at : (d l : List ℕ) (w : Work) → At test d l w → turn w ≡ map (λ a. act a w) (nearest (test w) l)
+  turn_at : (d l : List ℕ) (w : Work) → At test d l w → turn w ≡ option_map (λ a. act a w) (nearest (test w) l)
   turn_at d l w k =
-      ap (λ (o : Option ℕ). map (λ a. act a w) o) (ap (nearest (test w)) k.list ∙ nearest_past (test w) d l k.passed)
+      ap (λ (o : Option ℕ). option_map (λ a. act a w) o) (ap (nearest (test w)) k.list ∙ nearest_past (test w) d l k.passed)
 
   sweep_while : Onward test act → (d l : List ℕ) (w : Work) → At test d l w → While on turn w (sweep on test act l w)
   unfolding sweep nearest
@@ -93,9 +92,9 @@ fresh_at test w k = record { sound = k; list = refl; passed = λ b h. absurd (fa
 clean_after : (a b : ℕ) (rows : List Row) → dirty_at (amend a cleaned rows) b ≡ (if eqb a b then false else dirty_at rows b)
 clean_after a b rows = rw (get_amend a cleaned (λ e. refl) b rows) (split (eqb a b) (λ q. simp q (go (get rows b))) (λ q. simp q))
   where
-    go : (o : Option Entry) → passes (λ e. e.dirty) (map cleaned o) ≡ false
-    go none = refl
-    go (some e) = refl
+    go : (o : Option Entry) → passes (λ e. e.dirty) (option_map cleaned o) ≡ false
+    go None = refl
+    go (Some e) = refl
 
 AllClean : List Row → List ℕ → Type 0
 AllClean rows l = Passed (dirty_at rows) l
@@ -140,13 +139,13 @@ module _ {may : Bool} {turn : Work → Option Work} (g : Turning may false turn)
   turns_rest zero w h = refl
   turns_rest (suc n) w h = rw h (turns_rest n w h)
 
-  turns_stay : (n : ℕ) (w : Work) → turn w ≡ none → turns n turn x row w ≡ w
+  turns_stay : (n : ℕ) (w : Work) → turn w ≡ None → turns n turn x row w ≡ w
   unfolding turns
   turns_stay zero w h = refl
   turns_stay (suc n) w h = rw (h, if_same (on w) w) (turns_stay n w h)
 
   -- a turn leaves one order less to give
-  one_less : (w u : Work) → Sound w.cache → turn w ≡ some u → left u.cache + 1 ≡ left w.cache
+  one_less : (w u : Work) → Sound w.cache → turn w ≡ Some u → left u.cache + 1 ≡ left w.cache
   one_less w u k e = let m = g w u k e in let i = (moved m.moves k).orders in let j = m.order in omega arith
 
   turns_while : (n : ℕ) (w : Work) → Sound w.cache → left w.cache ≤ n → While on turn w (turns n turn x row w)
@@ -154,16 +153,16 @@ module _ {may : Bool} {turn : Work → Option Work} (g : Turning may false turn)
   turns_while zero w k h = split (on w) (λ p. go p (turn w) refl) (λ p. met p)
     where
       go : on w ≡ true → (o : Option Work) → turn w ≡ o → While on turn w w
-      go p none e = none_left p e
-      go p (some u) e = absurd (let i = one_less w u k e in omega arith)
+      go p None e = none_left p e
+      go p (Some u) e = absurd (let i = one_less w u k e in omega arith)
   turns_while (suc n) w k h =
       split (on w)
       (λ p. rw p (go p (turn w) refl (λ u e. turns_while n u (moves_sound (g w u k e).moves k) (let i = one_less w u k e in omega arith))))
       (λ p. rw (p, turns_rest n w p) (met p))
     where
-      go : on w ≡ true → (o : Option Work) → turn w ≡ o → ((u : Work) → turn w ≡ some u → While on turn u (turns n turn x row u)) → While on turn w (turns n turn x row (or_stay o w))
-      go p none e f = rw (turns_stay n w e) (none_left p e)
-      go p (some u) e f = again {u = u} p e (f u e)
+      go : on w ≡ true → (o : Option Work) → turn w ≡ o → ((u : Work) → turn w ≡ Some u → While on turn u (turns n turn x row u)) → While on turn w (turns n turn x row (or_stay o w))
+      go p None e f = rw (turns_stay n w e) (none_left p e)
+      go p (Some u) e f = again {u = u} p e (f u e)
 
   turns_enough : (w : Work) → Sound w.cache → While on turn w (evict_by turn x row w)
   turns_enough w k = turns_while (2 * length w.cache.rows) w k (left_most w.cache.rows)

@@ -1,17 +1,15 @@
 -- What moves keep: the threshold and the number of rows; a sound cache; what was absent; held bytes with what left in evict
 -- orders; and the orders that can still come, of which each move uses one.
-use Rattle.std.specs.Prelude.{if◌then◌else◌}
+use Rattle.std.specs.Prelude.{if◌then◌else◌, None, Some}
 use Prim.Native.Nat.{ℕ, ◌+◌, ◌*◌, ◌≤◌}
 use mathlib.Core.Path.{◌≡◌, refl, ap, ◌∙◌}
 use mathlib.Core.Bool.{Bool, true, false}
-use mathlib.Core.Option.{none, some}
 use mathlib.Core.List.{List, [], ◌∷◌, ◌++◌}
 use native.Mathlib.Omega.{arith}
 use lib.Dec.{eqb}
 use lib.ListN.{length, length-append}
 use Rattle.rules.specs.declared.entry.Entry.{Entry}
-use Rattle.rules.specs.declared.entry.Row.{Row}
-use Rattle.rules.specs.declared.entry.Row.TheVariants.{Free, Used}
+use Rattle.rules.specs.Types.{Row}
 use Rattle.rules.specs.declared.order.Order.{Order}
 use Rattle.rules.specs.Allowed.{Sound, EntryAllowed}
 use Rattle.rules.specs.Cache.{Cache, Work, held}
@@ -39,8 +37,8 @@ left c = total orders_left c.rows
 pub left_most : (rows : List Row) → total orders_left rows ≤ 2 * length rows
 unfolding total
 left_most [] = omega arith
-left_most (Free ∷ rows) = let ih = left_most rows in omega arith
-left_most (Used e ∷ rows) = let ih = left_most rows in let h = most (is_listed e) e.dirty in omega arith
+left_most (None ∷ rows) = let ih = left_most rows in omega arith
+left_most (Some e ∷ rows) = let ih = left_most rows in let h = most (is_listed e) e.dirty in omega arith
   where
     most : (l d : Bool) → (if l then (if d then 2 else 1) else 0) ≤ 2
     most true true = omega arith
@@ -58,7 +56,7 @@ evicted_append (o ∷ l) m = let ih = evicted_append l m in omega arith
 
 pub record Moved (w v : Work) : Type 0 where
   pub kept : Kept w.cache v.cache
-  pub absent : (b : ℕ) → get w.cache.rows b ≡ none → get v.cache.rows b ≡ none
+  pub absent : (b : ℕ) → get w.cache.rows b ≡ None → get v.cache.rows b ≡ None
   pub entries : Fit w.cache.rows → Fit v.cache.rows
   pub held : held v.cache + evicted_bytes v.orders ≡ held w.cache + evicted_bytes w.orders
   pub orders : length v.orders + left v.cache ≡ length w.orders + left w.cache
@@ -72,12 +70,12 @@ moved_trans p q = record {
   orders = q.orders ∙ p.orders;
 }
 
-module _ (a : ℕ) (w : Work) (e : Entry) (k : Sound w.cache) (g : get w.cache.rows a ≡ some e) (l : is_listed e ≡ true) where
+module _ (a : ℕ) (w : Work) (e : Entry) (k : Sound w.cache) (g : get w.cache.rows a ≡ Some e) (l : is_listed e ≡ true) where
   moved_evict : e.dirty ≡ false → Moved w (evict a w)
   unfolding evicted_bytes
   moved_evict d = record {
     kept = record { threshold = refl; rows = length_remove a w.cache.rows };
-    absent = λ b n. rw (get_remove a b w.cache.rows, n) (if_same (eqb a b) none);
+    absent = λ b n. rw (get_remove a b w.cache.rows, n) (if_same (eqb a b) None);
     entries = fit_remove a w.cache.rows;
     held = rw (evicted_append w.orders) (let h = total_remove (λ e. e.size) a w.cache.rows k.distinct in omega arith);
     orders = rw (length-append w.orders)
@@ -88,7 +86,7 @@ module _ (a : ℕ) (w : Work) (e : Entry) (k : Sound w.cache) (g : get w.cache.r
   unfolding evicted_bytes
   moved_write r d = record {
     kept = record { threshold = refl; rows = length_amend a cleaned w.cache.rows };
-    absent = λ b n. rw (get_amend a cleaned (λ e. refl) b w.cache.rows, n) (if_same (eqb a b) none);
+    absent = λ b n. rw (get_amend a cleaned (λ e. refl) b w.cache.rows, n) (if_same (eqb a b) None);
     entries = fit_amend a cleaned (λ e. refl) w.cache.rows (λ e g. clean_allowed e);
     held = rw (evicted_append w.orders) (let h = total_same (λ e. e.size) a cleaned (λ e. refl) w.cache.rows in omega arith);
     orders = rw (length-append w.orders)

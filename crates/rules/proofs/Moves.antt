@@ -1,10 +1,10 @@
 -- Making room, sync and age-out as moves: an entry of the recency list is evicted if it is clean, or written if it is dirty; and, at a flash
 -- or an epoch's end, figures and idle counts change. What holds of each move and goes on to the next holds of every pass.
-use Rattle.std.specs.Prelude.{if◌then◌else◌}
+use Rattle.std.specs.Prelude.{if◌then◌else◌, Option, None, Some, option_map}
 use Prim.Native.Nat.{ℕ, zero, suc, ◌+◌, ◌*◌}
 use mathlib.Core.Path.{◌≡◌, refl, sym, ap, subst, ◌∙◌}
 use mathlib.Core.Bool.{Bool, true, false, not}
-use mathlib.Core.Option.{Option, none, some, map, some-ne-none}
+use Rattle.std.proofs.lemmas.Option.{none-some}
 use mathlib.Core.List.{List, [], ◌∷◌, ◌++◌}
 use lib.Dec.{eqb, ltb}
 use lib.ListN.{length, length-append}
@@ -44,9 +44,9 @@ idled w = record { cache = with_rows (amend_all older w.cache.rows) w.cache.rece
 -- where `may` is false nothing is written; where `sets` is false no maximum, counter or idle count changes
 pub data Moves (may sets : Bool) : Work → Work → Type 0 where
   done : {w : Work} → Moves may sets w w
-  evicts : {w v : Work} (a : ℕ) (e : Entry) → get w.cache.rows a ≡ some e → is_listed e ≡ true → e.dirty ≡ false
+  evicts : {w v : Work} (a : ℕ) (e : Entry) → get w.cache.rows a ≡ Some e → is_listed e ≡ true → e.dirty ≡ false
       → Moves may sets (evict a w) v → Moves may sets w v
-  writes : {w v : Work} (a : ℕ) (e : Entry) (l : List ℕ) → may ≡ true → get w.cache.rows a ≡ some e → is_listed e ≡ true → e.dirty ≡ true
+  writes : {w v : Work} (a : ℕ) (e : Entry) (l : List ℕ) → may ≡ true → get w.cache.rows a ≡ Some e → is_listed e ≡ true → e.dirty ≡ true
       → SameList l w.cache.recency → Moves may sets (write a l w) v → Moves may sets w v
   tunes : {w v : Work} (n h k : ℕ) → sets ≡ true → Moves may sets (tuned n h k w) v → Moves may sets w v
   ages : {w v : Work} → sets ≡ true → Moves may sets (idled w) v → Moves may sets w v
@@ -83,8 +83,8 @@ module _ (a : ℕ) (f : Entry → Entry) (keeps : (e : Entry) → (f e).address 
   }
 
 cleaned_listed : (o : Option Entry) → passes (λ e. is_listed (cleaned e)) o ≡ passes is_listed o
-cleaned_listed none = refl
-cleaned_listed (some e) = refl
+cleaned_listed None = refl
+cleaned_listed (Some e) = refl
 
 pub sound_write : (a : ℕ) (l : List ℕ) (c : Cache) → SameList l c.recency → Sound c → Sound (with_rows (amend a cleaned c.rows) l c)
 sound_write a l c s k = sound_amend a cleaned (λ x. refl) l c s (cleaned_listed (get c.rows a)) k
@@ -138,12 +138,12 @@ unfolding Listed
 sound_listed w k b h = go (get w.cache.rows b) (sym (k.listed b) ∙ h)
   where
     go : (o : Option Entry) → passes is_listed o ≡ true → passes (λ e. not (is_listed e)) o ≡ false
-    go none p = refl
-    go (some e) p = rw p
+    go None p = refl
+    go (Some e) p = rw p
 
 -- an entry of the list that passes a test
 found_listed : (test : Entry → Bool) (a : ℕ) (l : List ℕ) (w : Work) → Listed (a ∷ l) w → passes test (get w.cache.rows a) ≡ true
-    → (e : Entry) × (get w.cache.rows a ≡ some e) × (is_listed e ≡ true) × (test e ≡ true)
+    → (e : Entry) × (get w.cache.rows a ≡ Some e) × (is_listed e ≡ true) × (test e ≡ true)
 unfolding Listed
 found_listed test a l w k h =
     let p = present test (get w.cache.rows a) h in
@@ -162,12 +162,12 @@ module _ {may sets : Bool} (a : ℕ) (l : List ℕ) (w : Work) (k : Listed (a �
       writes a p.0 r y p.1 p.2 p.3 s m
 
 -- what is nearest is in the list, and passes
-pub nearest_in : (test : ℕ → Bool) (a : ℕ) (l : List ℕ) → nearest test l ≡ some a → (elem a l ≡ true) × (test a ≡ true)
+pub nearest_in : (test : ℕ → Bool) (a : ℕ) (l : List ℕ) → nearest test l ≡ Some a → (elem a l ≡ true) × (test a ≡ true)
 unfolding nearest
-nearest_in test a [] h = absurd (some-ne-none a (sym h))
+nearest_in test a [] h = absurd (none-some a h)
 nearest_in test a (b ∷ l) h =
     split (test b)
-    (λ p. let g : some b ≡ some a = simp p at h in let e : b ≡ a = cc in
+    (λ p. let g : Some b ≡ Some a = simp p at h in let e : b ≡ a = cc in
     (subst (λ (x : ℕ). elem x (b ∷ l) ≡ true) e (elem_first b l), subst (λ (x : ℕ). test x ≡ true) e p))
     (λ p. let k = nearest_in test a l (simp p at h) in (elem_rest b a l k.0, k.1))
 
@@ -190,8 +190,8 @@ turned a l = record {
 
 -- an entry that is there and not dirty is clean
 pub clean_of : (test : Entry → Bool) (o : Option Entry) → passes test o ≡ true → passes (λ e. e.dirty) o ≡ false → passes is_clean o ≡ true
-clean_of test none p q = p
-clean_of test (some e) p q = rw q
+clean_of test None p q = p
+clean_of test (Some e) p q = rw q
 
 -- ---- the turns of step 1
 
@@ -201,13 +201,13 @@ pub record OneTurn (may sets : Bool) (w u : Work) : Type 0 where
   pub order : length u.orders ≡ length w.orders + 1
 
 abbrev pub Turning : Bool → Bool → (Work → Option Work) → Type 0
-Turning may sets turn = (w u : Work) → Sound w.cache → turn w ≡ some u → OneTurn may sets w u
+Turning may sets turn = (w u : Work) → Sound w.cache → turn w ≡ Some u → OneTurn may sets w u
 
 pub tail_turns : {sets : Bool} → Turning true sets tail_turn
 tail_turns {sets} w u k = go w.cache.recency refl
   where
-    go : (l : List ℕ) → w.cache.recency ≡ l → look_at_tail l w ≡ some u → OneTurn true sets w u
-    go [] e n = absurd (some-ne-none u (sym n))
+    go : (l : List ℕ) → w.cache.recency ≡ l → look_at_tail l w ≡ Some u → OneTurn true sets w u
+    go [] e n = absurd (none-some u n)
     go (a ∷ l) e n =
         let s : Listed (a ∷ l) w = subst (λ (r : List ℕ). Listed r w) e (sound_listed w k) in
         let same : (if dirty_at w.cache.rows a then write a (l ++ a ∷ []) w else evict a w) ≡ u = cc in
@@ -222,9 +222,9 @@ tail_turns {sets} w u k = go w.cache.recency refl
 pub clean_turns : {may sets : Bool} → Turning may sets clean_turn
 clean_turns {may} {sets} w u k = go (nearest (clean_at w.cache.rows) w.cache.recency) refl
   where
-    go : (o : Option ℕ) → nearest (clean_at w.cache.rows) w.cache.recency ≡ o → map (λ a. evict a w) o ≡ some u → OneTurn may sets w u
-    go none e n = absurd (some-ne-none u (sym n))
-    go (some a) e n =
+    go : (o : Option ℕ) → nearest (clean_at w.cache.rows) w.cache.recency ≡ o → option_map (λ a. evict a w) o ≡ Some u → OneTurn may sets w u
+    go None e n = absurd (none-some u n)
+    go (Some a) e n =
         let i = nearest_in (clean_at w.cache.rows) a w.cache.recency e in
         let p = present is_clean (get w.cache.rows a) i.1 in
         let same : evict a w ≡ u = cc in
@@ -242,8 +242,8 @@ turns_move {may} {sets} {turn} g (suc n) x row w k =
     moves_trans m (turns_move g n x row _ (moves_sound m k))
   where
     go : (o : Option Work) → turn w ≡ o → Moves may sets w (or_stay o w)
-    go none e = done
-    go (some u) e = (g w u k e).moves
+    go None e = done
+    go (Some u) e = (g w u k e).moves
 
 -- ---- making room
 
@@ -287,9 +287,9 @@ room_after {sets} {v = v} x row k m =
 written_clean : (a : ℕ) (w : Work) → dirty_at w.cache.rows a ≡ true → clean_at (amend a cleaned w.cache.rows) a ≡ true
 written_clean a w d = rw (get_amend a cleaned (λ e. refl) a w.cache.rows) (simp (eq-eqb a a refl) (go (get w.cache.rows a) d))
   where
-    go : (o : Option Entry) → passes (λ e. e.dirty) o ≡ true → passes is_clean (map cleaned o) ≡ true
-    go none p = p
-    go (some e) p = refl
+    go : (o : Option Entry) → passes (λ e. e.dirty) o ≡ true → passes is_clean (option_map cleaned o) ≡ true
+    go None p = p
+    go (Some e) p = refl
 
 module _ (n a : ℕ) (l : List ℕ) (w : Work) (k : Listed (a ∷ l) w) (h : aged_at n w.cache a ≡ true) where
   evicts_aged : {may sets : Bool} → dirty_at w.cache.rows a ≡ false → Moves may sets w (evict a w)

@@ -1,5 +1,6 @@
 -- The order of a flush: an address is put before the first that is not below it, so the list rises, and a rising list is fixed by what
 -- stands in it.
+use Rattle.std.specs.Prelude.{None, Some}
 use Prim.Native.Nat.{ℕ, ◌≤◌, ◌<◌}
 use mathlib.Core.Path.{◌≡◌, refl, sym, ap, ap₂, subst, ◌∙◌}
 use mathlib.Core.Bool.{Bool, true, false, ◌||◌, false≢true}
@@ -7,8 +8,7 @@ use mathlib.Core.List.{List, [], ◌∷◌}
 use native.Mathlib.Omega.{arith}
 use lib.Dec.{eqb, leb}
 use borrow.Author.Tests.{eqb-true, eqb-false, ne_eqb, leb-true, leb-false}
-use Rattle.rules.specs.declared.entry.Row.{Row}
-use Rattle.rules.specs.declared.entry.Row.TheVariants.{Free, Used}
+use Rattle.rules.specs.Types.{Row}
 use Rattle.rules.specs.Addresses.{elem, twice, insert_rising}
 use Rattle.rules.specs.Allowed.{Distinct}
 use Rattle.rules.specs.Rising.{Above, Rising, FlushOrder}
@@ -74,8 +74,8 @@ elem_insert a b (x ∷ l) =
 elem_dirty : (rows : List Row) (b : ℕ) → Distinct rows → elem b (dirty_rising rows) ≡ dirty_at rows b
 unfolding elem dirty_rising get
 elem_dirty [] b d = refl
-elem_dirty (Free ∷ rows) b d = elem_dirty rows b d
-elem_dirty (Used e ∷ rows) b d =
+elem_dirty (None ∷ rows) b d = elem_dirty rows b d
+elem_dirty (Some e ∷ rows) b d =
     split e.dirty
     (λ p. split (eqb e.address b)
     (λ q. simp (p, q, elem_insert))
@@ -105,8 +105,8 @@ rising_insert a (x ∷ l) h n =
 rising_dirty : (rows : List Row) → Distinct rows → Rising (dirty_rising rows)
 unfolding dirty_rising
 rising_dirty [] d = tt
-rising_dirty (Free ∷ rows) d = rising_dirty rows d
-rising_dirty (Used e ∷ rows) d =
+rising_dirty (None ∷ rows) d = rising_dirty rows d
+rising_dirty (Some e ∷ rows) d =
     choose (λ (m : List ℕ). Rising m) e.dirty
     (λ p. rising_insert e.address (dirty_rising rows) (rising_dirty rows d.1) (elem_dirty rows e.address d.1 ∙ ap (passes (λ x. x.dirty)) d.0))
     (λ p. rising_dirty rows d.1)

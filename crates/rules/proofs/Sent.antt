@@ -1,13 +1,12 @@
 -- The list that a flush or a sync sends: each address once, and of a dirty record. A write makes its record clean, so none is written twice.
-use Rattle.std.specs.Prelude.{if◌then◌else◌}
+use Rattle.std.specs.Prelude.{if◌then◌else◌, Option, None}
 use Prim.Native.Nat.{ℕ}
 use mathlib.Core.Path.{◌≡◌, refl, sym, ap, subst, ◌∙◌}
 use mathlib.Core.Bool.{Bool, true, false, ◌&&◌, ◌||◌, false≢true, true≢false}
-use mathlib.Core.Option.{Option, none}
 use mathlib.Core.List.{List, [], ◌∷◌, ◌++◌, map}
 use lib.Dec.{eqb, ltb}
 use borrow.Author.Tests.{eqb-true}
-use Rattle.rules.specs.declared.entry.Row.{Row}
+use Rattle.rules.specs.Types.{Row}
 use Rattle.rules.specs.declared.order.Order.{Order}
 use Rattle.rules.specs.declared.request.Request.{Request}
 use Rattle.rules.specs.Addresses.{elem, twice}
@@ -39,11 +38,11 @@ names_before : (l : List Order) (o : Order) (b : ℕ) → eqb o.address b ≡ fa
 names_before l o b q h = simp (q, or_false) at (sym (names_last l o b) ∙ h)
 
 -- an order was given, after which there is no dirty record at its address
-without_last : (l : List Order) (o : Order) (b : ℕ) (old : Option ℕ) {new : Option ℕ} → new ≡ (if names (addresses l) b then none else old)
-    → (if eqb o.address b then none else new) ≡ (if names (addresses (l ++ o ∷ [])) b then none else old)
+without_last : (l : List Order) (o : Order) (b : ℕ) (old : Option ℕ) {new : Option ℕ} → new ≡ (if names (addresses l) b then None else old)
+    → (if eqb o.address b then None else new) ≡ (if names (addresses (l ++ o ∷ [])) b then None else old)
 without_last l o b old h = rw (names_last l o b, h) (go (eqb o.address b) (names (addresses l) b))
   where
-    go : (s t : Bool) → (if s then none else (if t then none else old)) ≡ (if t || s then none else old)
+    go : (s t : Bool) → (if s then None else (if t then None else old)) ≡ (if t || s then None else old)
     go true t = rw (or_true t)
     go false t = rw (or_false t)
 
@@ -60,7 +59,7 @@ map_last (x ∷ l) o = ap (λ (r : List ℕ). x.address ∷ r) (map_last l o)
 
 -- a list of orders, each of a record that was dirty, none of one that is
 record Sending (c : Cache) (w : Work) : Type 0 where
-  sizes : (b : ℕ) → dirty_size (get w.cache.rows b) ≡ (if names (addresses w.orders) b then none else dirty_size (get c.rows b))
+  sizes : (b : ℕ) → dirty_size (get w.cache.rows b) ≡ (if names (addresses w.orders) b then None else dirty_size (get c.rows b))
   once : twice (addresses w.orders) ≡ false
   dirty : (b : ℕ) → names (addresses w.orders) b ≡ true → dirty_at c.rows b ≡ true
 

@@ -1,17 +1,16 @@
 -- The bytes missing of the clean share: 0 exactly where the test passes, so that the pass by the one is the pass by the other; and what a write
 -- leaves missing.
-use Rattle.std.specs.Prelude.{if◌then◌else◌}
+use Rattle.std.specs.Prelude.{if◌then◌else◌, Option, None, Some, option_map, unwrap_or}
 use Prim.Native.Nat.{ℕ, ◌+◌, ◌-◌, ◌≤◌}
 use mathlib.Core.Bool.{Bool, true, false, not, ◌&&◌}
 use mathlib.Core.List.{List, [], ◌∷◌}
-use mathlib.Core.Option.{Option, none, some, map, get_or}
 use mathlib.Core.Path.{◌≡◌, refl, ap, ap₂, subst, ◌∙◌}
 use native.Mathlib.Omega.{arith}
 use lib.Dec.{eqb, ltb}
 use borrow.Author.Tests.{eqb-true, eq-eqb, lt-ltb, le-ltb, le-leb, leb-true, leb-false}
 use Rattle.settings.specs.declared.Mode.TheVariants.{Alone}
 use Rattle.rules.specs.declared.entry.Entry.{Entry}
-use Rattle.rules.specs.declared.entry.Row.{Row}
+use Rattle.rules.specs.Types.{Row}
 use Rattle.rules.specs.declared.request.Request.TheVariants.{Sync}
 use Rattle.rules.specs.Addresses.{elem, twice}
 use Rattle.rules.specs.Cache.{Cache, Work, start, recency_list, minimum_clean, amend_at, with_count}
@@ -69,7 +68,7 @@ sync_as_before c message = ap (λ (w : Work). record { cache = numbered (with_co
 -- ---- the clean bytes
 
 abbrev counts_of : Option Entry → ℕ
-counts_of o = if passes is_clean o then get_or (map (λ e. e.size) o) 0 else 0
+counts_of o = if passes is_clean o then unwrap_or (option_map (λ e. e.size) o) 0 else 0
 
 module _ (a : ℕ) (rows : List Row) where
   get_other : (b : ℕ) → eqb a b ≡ false → get (amend a cleaned rows) b ≡ get rows b
@@ -86,9 +85,9 @@ module _ (a : ℕ) (rows : List Row) where
   now_counts : dirty_at rows a ≡ true → counts_of (get (amend a cleaned rows) a) ≡ counts_of (get rows a) + size_at rows a
   now_counts d = rw (get_amend a cleaned (λ e. refl) a rows, eq-eqb a a refl) (go (get rows a) d)
     where
-      go : (o : Option Entry) → passes (λ e. e.dirty) o ≡ true → counts_of (map cleaned o) ≡ counts_of o + get_or (map (λ e. e.size) o) 0
-      go none d = refl
-      go (some e) d = rw d (omega arith)
+      go : (o : Option Entry) → passes (λ e. e.dirty) o ≡ true → counts_of (option_map cleaned o) ≡ counts_of o + unwrap_or (option_map (λ e. e.size) o) 0
+      go None d = refl
+      go (Some e) d = rw d (omega arith)
 
   clean_raised : (l : List ℕ) → twice l ≡ false → elem a l ≡ true → dirty_at rows a ≡ true → clean_bytes (amend a cleaned rows) l ≡ clean_bytes rows l + size_at rows a
   unfolding clean_bytes elem twice

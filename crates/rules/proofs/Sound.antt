@@ -1,9 +1,8 @@
 -- A sound cache stays sound when an entry is touched, placed or cleaned: what is found at each address and what the list has change alike.
-use Rattle.std.specs.Prelude.{if◌then◌else◌}
+use Rattle.std.specs.Prelude.{if◌then◌else◌, None}
 use Prim.Native.Nat.{ℕ, zero, suc}
 use mathlib.Core.Path.{◌≡◌, refl, ap, ◌∙◌}
 use mathlib.Core.Bool.{true, false}
-use mathlib.Core.Option.{none}
 use mathlib.Core.List.{List, [], ◌∷◌, ◌++◌, append-nil}
 use lib.Dec.{eqb}
 use lib.ListN.{replicate}
@@ -11,7 +10,6 @@ use borrow.Author.Tests.{eqb-true, eq-eqb}
 use Rattle.settings.specs.declared.Settings.{Settings}
 use Rattle.rules.specs.declared.entry.Entry.{Entry}
 use Rattle.rules.specs.declared.entry.Hold.TheVariants.{Unheld}
-use Rattle.rules.specs.declared.entry.Row.TheVariants.{Free}
 use Rattle.rules.specs.declared.request.Access.{Access}
 use Rattle.rules.specs.declared.request.Access.TheVariants.{Reading, Writing}
 use Rattle.settings.specs.declared.Mode.{Mode}
@@ -41,7 +39,7 @@ module _ (a : ℕ) (f : Entry → Entry) (keeps : (e : Entry) → (f e).address 
       }
 
 -- an entry comes that was not there, at the head if it is listed
-pub sound_place : (e : Entry) (c : Cache) → has_free c.rows ≡ true → get c.rows e.address ≡ none → Sound c
+pub sound_place : (e : Entry) (c : Cache) → has_free c.rows ≡ true → get c.rows e.address ≡ None → Sound c
     → Sound (with_rows (place e c.rows) (c.recency ++ (if is_listed e then e.address ∷ [] else [])) c)
 sound_place e c h n k = record {
   distinct = distinct_place e c.rows h n k.distinct;
@@ -55,7 +53,7 @@ sound_place e c h n k = record {
 }
 
 -- a loaded entry is held, so the list stays
-pub sound_load : (x : Access) (a s : ℕ) (c : Cache) → has_free c.rows ≡ true → get c.rows a ≡ none → Sound c
+pub sound_load : (x : Access) (a s : ℕ) (c : Cache) → has_free c.rows ≡ true → get c.rows a ≡ None → Sound c
     → Sound (with_rows (place (new_entry a s false (joined x Unheld)) c.rows) c.recency c)
 sound_load Reading a s c h n k = rw append-nil at (sound_place (new_entry a s false (joined Reading Unheld)) c h n k)
 sound_load Writing a s c h n k = rw append-nil at (sound_place (new_entry a s false (joined Writing Unheld)) c h n k)
@@ -67,12 +65,12 @@ sound_clean (a ∷ l) c k = sound_clean l (with_rows _ c.recency c) (sound_write
 
 -- ---- a fresh cache
 
-pub none_free : (n : ℕ) (b : ℕ) → get (replicate n Free) b ≡ none
+pub none_free : (n : ℕ) (b : ℕ) → get (replicate n None) b ≡ None
 unfolding get
 none_free zero b = refl
 none_free (suc n) b = none_free n b
 
-distinct_free : (n : ℕ) → Distinct (replicate n Free)
+distinct_free : (n : ℕ) → Distinct (replicate n None)
 distinct_free zero = tt
 distinct_free (suc n) = distinct_free n
 

@@ -1,6 +1,5 @@
 -- Lists of addresses.
-use Rattle.std.specs.Prelude.{ℕ, Bool, false, ◌||◌, List, [], ◌∷◌, eqb, leb, if◌then◌else◌}
-use Rattle.std.proofs.Math.Option.{Option, none, some}
+use Rattle.std.specs.Prelude.{ℕ, Bool, false, ◌||◌, List, [], ◌∷◌, eqb, leb, if◌then◌else◌, Option, None, Some}
 
 unfoldable pub elem : ℕ → List ℕ → Bool
 elem a [] = false
@@ -17,8 +16,8 @@ some_address test (a ∷ rest) = test a || some_address test rest
 
 -- The first that passes a test: of the recency list, the one nearest the tail.
 unfoldable pub nearest : (ℕ → Bool) → List ℕ → Option ℕ
-nearest test [] = none
-nearest test (a ∷ rest) = if test a then some a else nearest test rest
+nearest test [] = None
+nearest test (a ∷ rest) = if test a then Some a else nearest test rest
 
 -- Whether an address stands twice.
 unfoldable pub twice : List ℕ → Bool

@@ -1,12 +1,10 @@
 -- Refusal 1's list of what a state may be. Every number is a 64-bit one by its type.
-use Rattle.std.specs.Prelude.{ℕ, ◌≤◌, ◌<◌, ◌≡◌, false, List, [], ◌∷◌, eqb, length}
-use Rattle.std.proofs.Math.Option.{none, some}
+use Rattle.std.specs.Prelude.{ℕ, ◌≤◌, ◌<◌, ◌≡◌, false, List, [], ◌∷◌, eqb, length, None, Some}
 use Rattle.settings.specs.Validation.{first_bad}
 use Rattle.rules.specs.declared.entry.Entry.{Entry}
 use Rattle.rules.specs.declared.entry.Hold.{Hold}
 use Rattle.rules.specs.declared.entry.Hold.TheVariants.{Unheld, Readers, Writer}
-use Rattle.rules.specs.declared.entry.Row.{Row}
-use Rattle.rules.specs.declared.entry.Row.TheVariants.{Free, Used}
+use Rattle.rules.specs.Types.{Row}
 use Rattle.rules.specs.Addresses.{elem, twice}
 use Rattle.rules.specs.Cache.{Cache}
 use Rattle.rules.specs.Entries.{is_listed}
@@ -29,8 +27,8 @@ pub record EntryAllowed (e : Entry) : Type 0 where
 -- Addresses are distinct: no later row has an entry's address.
 abbrev pub Distinct : List Row → Type 0
 Distinct [] = Unit
-Distinct (Free ∷ rows) = Distinct rows
-Distinct (Used e ∷ rows) = (get rows e.address ≡ none) × Distinct rows
+Distinct (None ∷ rows) = Distinct rows
+Distinct (Some e ∷ rows) = (get rows e.address ≡ None) × Distinct rows
 
 -- The rows and the recency list: distinct addresses, and exactly the entries neither held nor pinned, once each.
 pub record Sound (c : Cache) : Type 0 where
@@ -41,7 +39,7 @@ pub record Sound (c : Cache) : Type 0 where
 pub record Allowed (c : Cache) : Type 0 where
   pub some_rows : 1 ≤ length c.rows
   pub rows : length c.rows ≤ most_rows
-  pub entries : (a : ℕ) (e : Entry) → get c.rows a ≡ some e → EntryAllowed e
+  pub entries : (a : ℕ) (e : Entry) → get c.rows a ≡ Some e → EntryAllowed e
   pub sound : Sound c
   pub some_bytes : 1 ≤ c.threshold
   pub threshold : c.threshold ≤ most_threshold

@@ -1,12 +1,8 @@
 -- The answers by number.
-use Rattle.std.specs.Prelude.{ℕ}
-use Rattle.std.proofs.Math.Option.{Option, none, some}
-use Rattle.rules.specs.declared.answer.Answer.{Answer}
-use Rattle.rules.specs.declared.answer.Answer.TheVariants.{Accepted, Refused}
+use Rattle.std.specs.Prelude.{ℕ, Option, Some, Ok, Err, None}
+use Rattle.rules.specs.Types.{Answer, Verdict}
 use Rattle.rules.specs.declared.answer.Refusal.{Refusal}
 use Rattle.rules.specs.declared.answer.Refusal.TheVariants as refusal
-use Rattle.rules.specs.declared.answer.Verdict.{Verdict}
-use Rattle.rules.specs.declared.answer.Verdict.TheVariants as verdict
 
 abbrev pub refusal_number : Refusal → ℕ
 refusal_number refusal.Table = 1
@@ -28,8 +24,8 @@ refusal_number refusal.Number = 16
 
 -- The number of an answer: 0 is acceptance.
 abbrev pub answer_number : Answer → ℕ
-answer_number (Accepted orders) = 0
-answer_number (Refused r) = refusal_number r
+answer_number (Ok orders) = 0
+answer_number (Err r) = refusal_number r
 
 -- The lowest bad field's number comes with 12 only.
 abbrev pub refusal_field : Refusal → ℕ
@@ -51,31 +47,31 @@ refusal_field refusal.Malformed = 0
 refusal_field refusal.Number = 0
 
 abbrev pub answer_field : Answer → ℕ
-answer_field (Accepted orders) = 0
-answer_field (Refused r) = refusal_field r
+answer_field (Ok orders) = 0
+answer_field (Err r) = refusal_field r
 
 -- The number of orders: none with a refusal.
 abbrev pub answer_orders : Answer → ℕ
-answer_orders (Accepted orders) = orders
-answer_orders (Refused r) = 0
+answer_orders (Ok orders) = orders
+answer_orders (Err r) = 0
 
 -- ---- verdicts
 
 -- No refusal is acceptance.
 abbrev pub verdict_of : Option Refusal → Verdict
-verdict_of none = verdict.Accepted
-verdict_of (some r) = verdict.Refused r
+verdict_of None = Ok tt
+verdict_of (Some r) = Err r
 
 -- The verdict that an answer carries.
 abbrev pub verdict_in : Answer → Verdict
-verdict_in (Accepted orders) = verdict.Accepted
-verdict_in (Refused r) = verdict.Refused r
+verdict_in (Ok orders) = Ok tt
+verdict_in (Err r) = Err r
 
 -- Its number and field are those of the answer.
 abbrev pub verdict_number : Verdict → ℕ
-verdict_number verdict.Accepted = 0
-verdict_number (verdict.Refused r) = refusal_number r
+verdict_number (Ok tt) = 0
+verdict_number (Err r) = refusal_number r
 
 abbrev pub verdict_field : Verdict → ℕ
-verdict_field verdict.Accepted = 0
-verdict_field (verdict.Refused r) = refusal_field r
+verdict_field (Ok tt) = 0
+verdict_field (Err r) = refusal_field r

@@ -1,10 +1,9 @@
 -- The state of a cache, and a cache changed in one respect.
-use Rattle.std.specs.Prelude.{ℕ, Bool, false, List, [], ◌∷◌, ◌++◌, ltb, replicate, if◌then◌else◌}
+use Rattle.std.specs.Prelude.{ℕ, Bool, false, List, [], ◌∷◌, ◌++◌, ltb, replicate, if◌then◌else◌, None}
 use Rattle.settings.specs.declared.Settings.{Settings}
 use Rattle.fraction.specs.Fraction.{size_product}
 use Rattle.rules.specs.declared.entry.Entry.{Entry}
-use Rattle.rules.specs.declared.entry.Row.{Row}
-use Rattle.rules.specs.declared.entry.Row.TheVariants.{Free}
+use Rattle.rules.specs.Types.{Row}
 use Rattle.rules.specs.declared.order.Kind.{Kind}
 use Rattle.rules.specs.declared.order.Order.{Order}
 use Rattle.settings.specs.declared.Mode.{Mode}
@@ -34,7 +33,7 @@ pub record Cache : Type 0 where
 -- A fresh cache is empty.
 abbrev pub fresh : ℕ → Mode → ℕ → Settings → Cache
 fresh n m t s = record {
-  rows = replicate n Free;
+  rows = replicate n None;
   recency = [];
   mode = m;
   threshold = t;

@@ -1,9 +1,7 @@
 -- Worked cases: each a setup, requests, and what they must give. P1 to P11 are document 01's.
-use Rattle.std.specs.Prelude.{ℕ, Bool, true, false, ◌&&◌, List, [], ◌∷◌, ◌++◌, leb, ltb, Float}
-use Rattle.std.proofs.Math.Option.{Option, none, some}
+use Rattle.std.specs.Prelude.{ℕ, Bool, true, false, ◌&&◌, List, [], ◌∷◌, ◌++◌, leb, ltb, Float, Option, Some, None}
 use Rattle.fraction.specs.Fraction.{decimal}
-use Rattle.settings.specs.declared.Cap.{Cap}
-use Rattle.settings.specs.declared.Cap.TheVariants as cap
+use Rattle.settings.specs.Types.{Cap}
 use Rattle.settings.specs.declared.Decrease.{Decrease}
 use Rattle.settings.specs.declared.Decrease.TheVariants as decrease
 use Rattle.settings.specs.declared.Flash.{Flash}
@@ -52,13 +50,13 @@ cache_of (later calls u) = after (cache_of u) calls
 cache_of (counting accesses hits u) = with_counters accesses hits (cache_of u)
 
 abbrev pub is_none : Option Refusal → Bool
-is_none none = true
-is_none (some r) = false
+is_none None = true
+is_none (Some r) = false
 
 -- Opening accepts it, and where counters are set they are as refusal 1 has them: accesses below the epoch length, hits at
 -- most accesses.
 unfoldable pub is_valid : Setup → Bool
-is_valid (opened rows mode threshold s) = is_none (refusal_of_opening rows true (some mode) threshold s)
+is_valid (opened rows mode threshold s) = is_none (refusal_of_opening rows true (Some mode) threshold s)
 is_valid (later calls u) = is_valid u
 is_valid (counting accesses hits u) = is_valid u && ltb accesses (cache_of u).settings.epoch && leb hits accesses
 
@@ -146,7 +144,7 @@ small_of fraction i most f d least = record {
 
 -- Clean fraction 0, no caps.
 abbrev pub small_with : Increase → Flash → Decrease → Settings
-small_with i f d = small_of (decimal 0 1) i cap.None f d cap.None
+small_with i f d = small_of (decimal 0 1) i None f d None
 
 -- No resize rules.
 abbrev pub small : Settings
@@ -169,7 +167,7 @@ at_epoch_end hits s size maximum = record {
 
 -- A rise of a full cache by a multiplier and within a cap, at lower rate 0.9.
 abbrev pub rising : Float → Cap → Settings
-rising multiplier most = small_of (decimal 0 1) (increase.Threshold (decimal 9 10) multiplier) most flash.Off decrease.Off cap.None
+rising multiplier most = small_of (decimal 0 1) (increase.Threshold (decimal 9 10) multiplier) most flash.Off decrease.Off None
 
 -- A rise at lower rate 0.8, and a threshold decrease by half above rate 0.9.
 abbrev pub halving : Settings
@@ -177,7 +175,7 @@ halving = small_with (increase.Threshold (decimal 8 10) (decimal 2 1)) flash.Off
 
 -- Age-out with reserve 0.25, within a cap.
 abbrev pub ageing : Cap → Settings
-ageing least = small_of (decimal 0 1) increase.Off cap.None flash.Off (decrease.AgeOut 10 (decimal 25 100)) least
+ageing least = small_of (decimal 0 1) increase.Off None flash.Off (decrease.AgeOut 10 (decimal 25 100)) least
 
 -- Flash with a multiple, and threshold 0.25.
 abbrev pub flashing : Float → Settings
@@ -273,18 +271,18 @@ cases =
       };
     }
     -- P5: 4,096 times 1.5
-    ∷ at_epoch_end 0 (rising (decimal 15 10) cap.None) 4096 6144
+    ∷ at_epoch_end 0 (rising (decimal 15 10) None) 4096 6144
     -- P5: 4,096 times 1.1
-    ∷ at_epoch_end 0 (rising (decimal 11 10) cap.None) 4096 4505
+    ∷ at_epoch_end 0 (rising (decimal 11 10) None) 4096 4505
     -- P6: 90 hits of 100
-    ∷ at_epoch_end 89 (rising (decimal 2 1) cap.None) 4096 4096
+    ∷ at_epoch_end 89 (rising (decimal 2 1) None) 4096 4096
     -- P6: 89 and full
-    ∷ at_epoch_end 88 (rising (decimal 2 1) cap.None) 4096 8192
+    ∷ at_epoch_end 88 (rising (decimal 2 1) None) 4096 8192
     -- P6: 89 and not full
-    ∷ at_epoch_end 88 (rising (decimal 2 1) cap.None) 4095 4096
+    ∷ at_epoch_end 88 (rising (decimal 2 1) None) 4095 4096
     -- P6: 89 and full, since making room found held plus incoming above the maximum
     ∷ record {
-      setup = last_access 88 (alone (rising (decimal 2 1) cap.None));
+      setup = last_access 88 (alone (rising (decimal 2 1) None));
       calls = ask (Insert 100 3000) ∷ ask (Insert 200 1000) ∷ ask (Insert 300 500) ∷ ask (Protect Reading 300 500) ∷ [];
       gives = record {
         answers = 0 ∷ 0 ∷ 0 ∷ 0 ∷ [];
@@ -299,9 +297,9 @@ cases =
       };
     }
     -- P7: held 3,000
-    ∷ at_epoch_end 99 (ageing cap.None) 3000 4000
+    ∷ at_epoch_end 99 (ageing None) 3000 4000
     -- P7: held 3,072
-    ∷ at_epoch_end 99 (ageing cap.None) 3072 4096
+    ∷ at_epoch_end 99 (ageing None) 3072 4096
     -- P8: x of 1,024
     ∷ record {
       setup = alone (flashing (decimal 1 1));
@@ -404,7 +402,7 @@ cases =
 
 -- Clean fraction 0.5: minimum clean bytes are 2,048.
 abbrev pub sharing : Settings
-sharing = small_of (decimal 5 10) increase.Off cap.None flash.Off decrease.Off cap.None
+sharing = small_of (decimal 5 10) increase.Off None flash.Off decrease.Off None
 
 -- By threshold: upper rate 0.9, multiplier 0.5.
 abbrev pub falling : Settings
@@ -429,9 +427,9 @@ next_epoch m = last_access 0 (later (epoch_of ++ ask (Release 200) ∷ []) (last
 abbrev pub further : List Case
 further =
     -- P6's rise, with a cap of 1,000
-    at_epoch_end 88 (rising (decimal 2 1) (cap.Upto 1000)) 4096 5096
+    at_epoch_end 88 (rising (decimal 2 1) (Some 1000)) 4096 5096
     -- P7's fall from 3,000 held, with a cap of 50
-    ∷ at_epoch_end 99 (ageing (cap.Upto 50)) 3000 4046
+    ∷ at_epoch_end 99 (ageing (Some 50)) 3000 4046
     -- P8's x of 1,025 with multiple 2.0, held 4,000: free space comes off x times multiple
     ∷ record {
       setup = later (ask (Insert 100 4000) ∷ ask (Configure (flashing (decimal 2 1))) ∷ []) (alone small);
@@ -636,7 +634,7 @@ abbrev pub full : List Case
 full =
     -- a world at 97 percent, whose every access misses
     record {
-      setup = last_access 0 (alone (rising (decimal 2 1) cap.None));
+      setup = last_access 0 (alone (rising (decimal 2 1) None));
       calls = ask (Insert 100 1324) ∷ ask (Insert 200 1324) ∷ ask (Insert 300 1325) ∷ ask (Protect Reading 400 1325) ∷ [];
       gives = record {
         answers = 0 ∷ 0 ∷ 0 ∷ 0 ∷ [];
@@ -655,7 +653,7 @@ full =
     }
     -- found with nothing to evict, and the entry gone since
     ∷ record {
-      setup = last_access 88 (alone (rising (decimal 2 1) cap.None));
+      setup = last_access 88 (alone (rising (decimal 2 1) None));
       calls = ask (Insert 100 5000) ∷ ask (Discard 100) ∷ ask (Protect Reading 200 100) ∷ [];
       gives = record {
         answers = 0 ∷ 0 ∷ 0 ∷ [];
@@ -671,7 +669,7 @@ full =
     }
     -- rows press, and bytes do not
     ∷ record {
-      setup = last_access 88 (opened 1 Alone default_threshold (rising (decimal 2 1) cap.None));
+      setup = last_access 88 (opened 1 Alone default_threshold (rising (decimal 2 1) None));
       calls = ask (Insert 100 100) ∷ ask (Protect Reading 200 100) ∷ [];
       gives = record {
         answers = 0 ∷ 0 ∷ [];
@@ -687,7 +685,7 @@ full =
     }
     -- cleared at the end of an epoch: a poor epoch after the rise brings no other
     ∷ record {
-      setup = counting 99 88 (later (ask (Protect Reading 100 5000) ∷ []) (last_access 88 (alone (rising (decimal 2 1) cap.None))));
+      setup = counting 99 88 (later (ask (Protect Reading 100 5000) ∷ []) (last_access 88 (alone (rising (decimal 2 1) None))));
       calls = ask (Protect Reading 100 5000) ∷ [];
       gives = record { answers = 0 ∷ []; orders = [] ∷ []; recency = []; held = 5000; dirty = 0; maximum = 8192; count = 0; due = false; next = 1 };
     }
@@ -706,8 +704,8 @@ full =
       setup =
           counting 99 88
           (later
-          (ask (Insert 100 5000) ∷ ask (Discard 100) ∷ ask (Configure (rising (decimal 2 1) cap.None)) ∷ [])
-          (alone (rising (decimal 2 1) cap.None)));
+          (ask (Insert 100 5000) ∷ ask (Discard 100) ∷ ask (Configure (rising (decimal 2 1) None)) ∷ [])
+          (alone (rising (decimal 2 1) None)));
       calls = ask (Protect Reading 200 100) ∷ [];
       gives = record {
         answers = 0 ∷ [];

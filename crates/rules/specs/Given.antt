@@ -1,6 +1,5 @@
 -- Orders as the host carries them out: what is written was dirty, what is evicted was clean and neither held nor pinned.
-use Rattle.std.specs.Prelude.{ℕ, ◌≡◌, Bool, true, false, List, [], ◌∷◌, eqb, if◌then◌else◌}
-use Rattle.std.proofs.Math.Option.{Option, none, some, map}
+use Rattle.std.specs.Prelude.{ℕ, ◌≡◌, Bool, true, false, List, [], ◌∷◌, eqb, if◌then◌else◌, Option, None, Some, option_map}
 use Rattle.rules.specs.declared.entry.Entry.{Entry}
 use Rattle.rules.specs.declared.order.Kind.{Kind}
 use Rattle.rules.specs.declared.order.Order.{Order}
@@ -25,7 +24,7 @@ abbrev pub View : Type 0
 View = ℕ → Option Standing
 
 abbrev pub view_of : Cache → View
-view_of c = λ a. map standing (get c.rows a)
+view_of c = λ a. option_map standing (get c.rows a)
 
 -- A view with another standing at an address.
 abbrev pub at : ℕ → Option Standing → View → View
@@ -35,16 +34,16 @@ at a s v = λ b. if eqb a b then s else v b
 pub data Given : View → List Order → View → Type 0 where
   nothing : {v : View} → Given v [] v
   -- a dirty entry is written, after which it is clean
-  write : {v u : View} {orders : List Order} (a s : ℕ) (l : Bool) → v a ≡ some (record { size = s; dirty = true; listed = l })
-      → Given (at a (some (record { size = s; dirty = false; listed = l })) v) orders u
+  write : {v u : View} {orders : List Order} (a s : ℕ) (l : Bool) → v a ≡ Some (record { size = s; dirty = true; listed = l })
+      → Given (at a (Some (record { size = s; dirty = false; listed = l })) v) orders u
       → Given v (record { kind = Kind.Write; address = a; size = s } ∷ orders) u
   -- a clean entry that stands in the recency list goes
-  evict : {v u : View} {orders : List Order} (a s : ℕ) → v a ≡ some (record { size = s; dirty = false; listed = true })
-      → Given (at a none v) orders u
+  evict : {v u : View} {orders : List Order} (a s : ℕ) → v a ≡ Some (record { size = s; dirty = false; listed = true })
+      → Given (at a None v) orders u
       → Given v (record { kind = Kind.Evict; address = a; size = s } ∷ orders) u
   -- a clean entry comes, held
-  load : {v u : View} {orders : List Order} (a s : ℕ) → v a ≡ none
-      → Given (at a (some (record { size = s; dirty = false; listed = false })) v) orders u
+  load : {v u : View} {orders : List Order} (a s : ℕ) → v a ≡ None
+      → Given (at a (Some (record { size = s; dirty = false; listed = false })) v) orders u
       → Given v (record { kind = Kind.Load; address = a; size = s } ∷ orders) u
 
 -- The cache when a request's first order can be given: a hit has taken its hold, and a release has let one go.
@@ -64,7 +63,7 @@ orders_from c (Configure s) = c
 
 -- What its orders lead to: the cache that it leaves, but for the entry that an insert puts in last.
 abbrev pub orders_to : Request → Cache → View
-orders_to (Insert a s) d = at a none (view_of d)
+orders_to (Insert a s) d = at a None (view_of d)
 orders_to (Protect x a s) d = view_of d
 orders_to (Release a) d = view_of d
 orders_to (ReleaseChanged a s) d = view_of d

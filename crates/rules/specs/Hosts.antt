@@ -1,9 +1,7 @@
 -- A lead and a standby: the runs that demand 3 speaks of.
-use Rattle.std.specs.Prelude.{ℕ, ◌+◌, ◌≡◌, Bool, true, false, List, [], ◌∷◌, length}
-use Rattle.std.proofs.Math.Option.{none, some}
+use Rattle.std.specs.Prelude.{ℕ, ◌+◌, ◌≡◌, Bool, true, false, List, [], ◌∷◌, length, None, Some, Ok, Err}
 use Rattle.settings.specs.declared.Settings.{Settings}
-use Rattle.rules.specs.declared.answer.Answer.{Answer}
-use Rattle.rules.specs.declared.answer.Answer.TheVariants.{Accepted, Refused}
+use Rattle.rules.specs.Types.{Answer}
 use Rattle.settings.specs.declared.Mode.TheVariants.{Lead, Standby}
 use Rattle.rules.specs.declared.request.Request.{Request}
 use Rattle.rules.specs.declared.request.Request.TheVariants.{Take}
@@ -16,8 +14,8 @@ use Rattle.rules.specs.Requests.{Outcome, step}
 use Rattle.rules.specs.Sides.{Side, other, Pair, at, put}
 
 abbrev pub is_accepted : Answer → Bool
-is_accepted (Accepted n) = true
-is_accepted (Refused r) = false
+is_accepted (Ok n) = true
+is_accepted (Err r) = false
 
 abbrev pub accepted : Outcome → Bool
 accepted o = is_accepted o.answer
@@ -53,7 +51,7 @@ hear_message message l = hear_list (addresses_in (read_message message)) l
 -- (the lead: a standby refuses flush and sync) goes to the other before the next message or change. Local requests, and refused
 -- ones of any kind, may come at any time.
 pub data Run (t : ℕ) : Pair Cache → Ledger → Pending → Type 0 where
-  opened : (n m : ℕ) (s u : Settings) → refusal_of_opening n true (some Lead) t s ≡ none → refusal_of_opening m true (some Standby) t u ≡ none
+  opened : (n m : ℕ) (s u : Settings) → refusal_of_opening n true (Some Lead) t s ≡ None → refusal_of_opening m true (Some Standby) t u ≡ None
       → Run t (record { one = fresh n Lead t s; two = fresh m Standby t u }) blank settled
   local : {h : Pair Cache} {l : Ledger} {p : Pending} (x : Side) (call : Call) → Local call.request
       → Run t h l p → Run t (put x (step (at x h) call).cache h) l p

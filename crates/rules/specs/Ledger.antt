@@ -1,6 +1,5 @@
 -- The ledger of document 01: what shared changes and lists tell, and nothing else.
-use Rattle.std.specs.Prelude.{ℕ, ◌+◌, min, Bool, true, false, ◌||◌, List, [], ◌∷◌, map, eqb, if◌then◌else◌}
-use Rattle.std.proofs.Math.Option.{Option, none, some}
+use Rattle.std.specs.Prelude.{ℕ, ◌+◌, min, Bool, true, false, ◌||◌, List, [], ◌∷◌, map, eqb, if◌then◌else◌, Option, None, Some}
 use Rattle.settings.specs.declared.Settings.{Settings}
 use Rattle.rules.specs.declared.entry.Entry.{Entry}
 use Rattle.rules.specs.declared.request.Access.{Access}
@@ -17,22 +16,22 @@ pub record Ledger : Type 0 where
 
 -- At first none and 0.
 abbrev pub blank : Ledger
-blank = record { sizes = λ a. none; count = 0 }
+blank = record { sizes = λ a. None; count = 0 }
 
 abbrev pub is_in : Option ℕ → Bool
-is_in none = false
-is_in (some s) = true
+is_in None = false
+is_in (Some s) = true
 
 -- An address not in it adds the named size to the count, within the stop; then it has that size.
 abbrev pub noted : ℕ → ℕ → Ledger → Ledger
 noted a s l = record {
-  sizes = λ b. if eqb a b then some s else l.sizes b;
+  sizes = λ b. if eqb a b then Some s else l.sizes b;
   count = (if is_in (l.sizes a) then l.count else min (l.count + s) 1_099_511_627_776);
 }
 
 -- Discard strikes its address.
 abbrev pub struck : ℕ → Ledger → Ledger
-struck a l = record { sizes = λ b. if eqb a b then none else l.sizes b; count = l.count }
+struck a l = record { sizes = λ b. if eqb a b then None else l.sizes b; count = l.count }
 
 unfoldable pub names : List ℕ → ℕ → Bool
 names [] b = false
@@ -40,7 +39,7 @@ names (a ∷ list) b = eqb a b || names list b
 
 -- A list strikes its own addresses and sets the count to 0.
 abbrev pub hear_list : List ℕ → Ledger → Ledger
-hear_list list l = record { sizes = λ b. if names list b then none else l.sizes b; count = 0 }
+hear_list list l = record { sizes = λ b. if names list b then None else l.sizes b; count = 0 }
 
 -- ---- which requests it hears of
 
@@ -75,8 +74,8 @@ hear (discard a) l = struck a l
 
 -- The size of a dirty record.
 abbrev pub dirty_size : Option Entry → Option ℕ
-dirty_size none = none
-dirty_size (some e) = if e.dirty then some e.size else none
+dirty_size None = None
+dirty_size (Some e) = if e.dirty then Some e.size else None
 
 -- The dirty records of a cache with their sizes, and its byte count.
 abbrev pub ledger_of : Cache → Ledger

@@ -1,6 +1,5 @@
 -- Opening a cache.
-use Rattle.std.specs.Prelude.{ℕ, Bool, true, false, not, ◌||◌, List, [], ◌∷◌, eqb, ltb}
-use Rattle.std.proofs.Math.Option.{Option, none, some}
+use Rattle.std.specs.Prelude.{ℕ, Bool, true, false, not, ◌||◌, List, [], ◌∷◌, eqb, ltb, Option, Some, None}
 use Rattle.settings.specs.Validation.{first_bad}
 use Rattle.settings.specs.declared.Settings.{Settings}
 use Rattle.rules.specs.declared.answer.Refusal.{Refusal}
@@ -10,8 +9,8 @@ use Rattle.rules.specs.Limits.{most_rows, most_threshold}
 use Rattle.rules.specs.Refusals.{Test, first_of, bad_field}
 
 abbrev pub is_missing : Option Mode → Bool
-is_missing none = true
-is_missing (some m) = false
+is_missing None = true
+is_missing (Some m) = false
 
 -- 1 for a row count out of limits or a lent table too short, 5 for a mode or threshold outside document 01 (no mode is
 -- one outside it), 12 for the settings, of which the initial size has to be set.

@@ -1,6 +1,5 @@
 -- If several refusals apply, the first in the order of judging is given. But for take this is the lowest number.
-use Rattle.std.specs.Prelude.{ℕ, ◌≡◌, List, [], ◌∷◌, if◌then◌else◌}
-use Rattle.std.proofs.Math.Option.{Option, none, some}
+use Rattle.std.specs.Prelude.{ℕ, ◌≡◌, List, [], ◌∷◌, if◌then◌else◌, Option, None, Some}
 use Rattle.rules.specs.declared.answer.Refusal.{Refusal}
 use Rattle.rules.specs.declared.answer.Refusal.TheVariants as refusal
 use Rattle.rules.specs.declared.request.Request.{Request}
@@ -55,5 +54,5 @@ passing place (t ∷ rest) = if t.0 then place t.1 ∷ passing place rest else p
 
 -- The lowest of them, if there is any.
 abbrev pub Lowest : (Refusal → ℕ) → Option Refusal → List ℕ → Type 0
-Lowest place none l = l ≡ []
-Lowest place (some r) l = (rest : List ℕ) × (l ≡ place r ∷ rest) × Above (place r) rest
+Lowest place None l = l ≡ []
+Lowest place (Some r) l = (rest : List ℕ) × (l ≡ place r ∷ rest) × Above (place r) rest

@@ -1,11 +1,10 @@
 -- When a request is refused: for each request its tests, in the order of judging, which but for take is by rising refusal number.
-use Rattle.std.specs.Prelude.{ℕ, ◌+◌, ◌*◌, Bool, true, false, not, ◌&&◌, ◌||◌, List, [], ◌∷◌, eqb, ltb, length, if◌then◌else◌}
-use Rattle.std.proofs.Math.Option.{Option, none, some}
+use Rattle.std.specs.Prelude.{ℕ, ◌+◌, ◌*◌, Bool, true, false, not, ◌&&◌, ◌||◌, List, [], ◌∷◌, eqb, ltb, length, if◌then◌else◌, Option, None, Some}
 use Rattle.settings.specs.Validation.{first_bad}
 use Rattle.rules.specs.declared.answer.Refusal.{Refusal}
 use Rattle.rules.specs.declared.answer.Refusal.TheVariants as refusal
 use Rattle.rules.specs.declared.entry.Entry.{Entry}
-use Rattle.rules.specs.declared.entry.Row.{Row}
+use Rattle.rules.specs.Types.{Row}
 use Rattle.settings.specs.declared.Mode.{Mode}
 use Rattle.settings.specs.declared.Mode.TheVariants.{Alone, Lead, Standby}
 use Rattle.rules.specs.declared.request.Request.{Request}
@@ -29,8 +28,8 @@ Test = Bool × Refusal
 
 -- The first test that passes, if any does.
 unfoldable pub first_of : List Test → Option Refusal
-first_of [] = none
-first_of (t ∷ rest) = if t.0 then some t.1 else first_of rest
+first_of [] = None
+first_of (t ∷ rest) = if t.0 then Some t.1 else first_of rest
 
 -- ---- the tests
 

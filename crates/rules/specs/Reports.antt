@@ -1,7 +1,7 @@
 -- The report.
 use Rattle.std.specs.Prelude.{ℕ, zero, suc, ◌+◌, List, [], ◌∷◌, eqb, if◌then◌else◌}
 use Rattle.rules.specs.declared.entry.Entry.{Entry}
-use Rattle.rules.specs.declared.entry.Row.{Row}
+use Rattle.rules.specs.Types.{Row}
 use Rattle.rules.specs.declared.report.Report.{Report}
 use Rattle.rules.specs.Cache.{Cache, held, minimum_clean, due}
 use Rattle.rules.specs.Room.{share_missing}

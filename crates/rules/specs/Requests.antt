@@ -1,12 +1,9 @@
 -- What an accepted request does, and the step: one request answered.
-use Rattle.std.specs.Prelude.{ℕ, ◌+◌, ◌-◌, min, max, Bool, true, false, List, [], ◌∷◌, ◌++◌, map, length, if◌then◌else◌}
-use Rattle.std.proofs.Math.Option.{Option, none, some}
+use Rattle.std.specs.Prelude.{ℕ, ◌+◌, ◌-◌, min, max, Bool, true, false, List, [], ◌∷◌, ◌++◌, map, length, if◌then◌else◌, Option, None, Some, Ok, Err}
 use Rattle.settings.specs.declared.Settings.{Settings}
-use Rattle.rules.specs.declared.answer.Answer.{Answer}
-use Rattle.rules.specs.declared.answer.Answer.TheVariants.{Accepted, Refused}
+use Rattle.rules.specs.Types.{Answer, Row}
 use Rattle.rules.specs.declared.answer.Refusal.{Refusal}
 use Rattle.rules.specs.declared.entry.Hold.TheVariants.{Unheld}
-use Rattle.rules.specs.declared.entry.Row.{Row}
 use Rattle.rules.specs.declared.order.Kind.{Kind}
 use Rattle.rules.specs.declared.order.Order.{Order}
 use Rattle.rules.specs.declared.request.Access.{Access}
@@ -117,8 +114,8 @@ pub record Outcome : Type 0 where
 
 -- A refusal answers its number, zero orders, and changes nothing.
 abbrev pub judged : Option Refusal → Cache → Work → Outcome
-judged none c w = record { answer = Accepted (length w.orders); cache = w.cache; orders = w.orders }
-judged (some r) c w = record { answer = Refused r; cache = c; orders = [] }
+judged None c w = record { answer = Ok (length w.orders); cache = w.cache; orders = w.orders }
+judged (Some r) c w = record { answer = Err r; cache = c; orders = [] }
 
 unfoldable pub step : Cache → Call → Outcome
 step c call = judged (refusal_of c call) c (effect c call.message call.request)

@@ -1,9 +1,8 @@
 -- How the maximum changes: the flash, and the end of an epoch.
-use Rattle.std.specs.Prelude.{ℕ, ◌+◌, ◌-◌, min, max, Bool, false, ◌&&◌, ◌||◌, List, [], ◌∷◌, leb, ltb, Float, if◌then◌else◌}
+use Rattle.std.specs.Prelude.{ℕ, ◌+◌, ◌-◌, min, max, Bool, false, ◌&&◌, ◌||◌, List, [], ◌∷◌, leb, ltb, Float, if◌then◌else◌, None, Some}
 use Rattle.std.specs.Float.Ieee.{lt, eq}
 use Rattle.fraction.specs.Fraction.{decimal, size_product, hit_rate, reserve_quotient, exceeds_share}
-use Rattle.settings.specs.declared.Cap.{Cap}
-use Rattle.settings.specs.declared.Cap.TheVariants as cap
+use Rattle.settings.specs.Types.{Cap}
 use Rattle.settings.specs.declared.Decrease.{Decrease}
 use Rattle.settings.specs.declared.Decrease.TheVariants as decrease
 use Rattle.settings.specs.declared.Flash.{Flash}
@@ -61,8 +60,8 @@ is_full c = c.exceeded || leb c.maximum (held c)
 
 -- Not above the maximum plus the cap.
 abbrev pub at_most : Cap → ℕ → ℕ → ℕ
-at_most cap.None maximum n = n
-at_most (cap.Upto most) maximum n = min n (maximum + most)
+at_most None maximum n = n
+at_most (Some most) maximum n = min n (maximum + most)
 
 -- Rate below lower and cache full: maximum times multiplier, not above maximum size or maximum plus cap.
 abbrev pub increased_by : Increase → Cap → Float → Bool → ℕ → ℕ → ℕ
@@ -77,8 +76,8 @@ increased_in rate c = increased_by c.settings.increase c.settings.increment rate
 
 -- Not below the maximum less the cap.
 abbrev pub at_least : Cap → ℕ → ℕ → ℕ
-at_least cap.None maximum n = n
-at_least (cap.Upto most) maximum n = max n (maximum - most)
+at_least None maximum n = n
+at_least (Some most) maximum n = max n (maximum - most)
 
 -- A target below the maximum is raised to minimum size and to maximum less cap, and taken if still below.
 abbrev pub lowered : ℕ → Cap → ℕ → ℕ → ℕ

@@ -1,6 +1,6 @@
 -- Rising lists of addresses, and the order of a flush.
 use Rattle.std.specs.Prelude.{ℕ, ◌<◌, ◌≡◌, List, [], ◌∷◌}
-use Rattle.rules.specs.declared.entry.Row.{Row}
+use Rattle.rules.specs.Types.{Row}
 use Rattle.rules.specs.Addresses.{elem}
 use Rattle.rules.specs.Rows.{dirty_at}
 

@@ -1,6 +1,5 @@
 -- Making room for an incoming size x and, if one is wanted, a row; "for nothing" is size 0 and no row.
-use Rattle.std.specs.Prelude.{ℕ, zero, suc, ◌+◌, ◌-◌, ◌*◌, Bool, not, ◌&&◌, ◌||◌, List, [], ◌∷◌, ◌++◌, ltb, length, if◌then◌else◌}
-use Rattle.std.proofs.Math.Option.{Option, none, some, map}
+use Rattle.std.specs.Prelude.{ℕ, zero, suc, ◌+◌, ◌-◌, ◌*◌, Bool, not, ◌&&◌, ◌||◌, List, [], ◌∷◌, ◌++◌, ltb, length, if◌then◌else◌, Option, None, Some, option_map}
 use Rattle.rules.specs.declared.order.Kind.{Kind}
 use Rattle.settings.specs.declared.Mode.{Mode}
 use Rattle.settings.specs.declared.Mode.TheVariants.{Alone, Lead, Standby}
@@ -8,7 +7,7 @@ use Rattle.rules.specs.Addresses.{strike, nearest}
 use Rattle.rules.specs.Cache.{Cache, Work, recency_list, with_rows, with_exceeded, held, minimum_clean, give}
 use Rattle.rules.specs.Entries.{cleaned}
 use Rattle.rules.specs.Rows.{amend, remove, has_free, clean_at, dirty_at, size_at}
-use Rattle.rules.specs.declared.entry.Row.{Row}
+use Rattle.rules.specs.Types.{Row}
 
 -- ---- the clean share
 
@@ -56,20 +55,20 @@ lacking x row c = overfull x c || row && not (has_free c.rows)
 
 -- Alone, a turn looks at the tail: a dirty one is written and moved to the head, a clean one evicted.
 abbrev pub look_at_tail : List ℕ → Work → Option Work
-look_at_tail [] w = none
-look_at_tail (a ∷ rest) w = some (if dirty_at w.cache.rows a then write a (rest ++ a ∷ []) w else evict a w)
+look_at_tail [] w = None
+look_at_tail (a ∷ rest) w = Some (if dirty_at w.cache.rows a then write a (rest ++ a ∷ []) w else evict a w)
 
 abbrev pub tail_turn : Work → Option Work
 tail_turn w = look_at_tail (recency_list w.cache) w
 
 -- In lead and standby, a turn evicts the clean entry nearest the tail.
 abbrev pub clean_turn : Work → Option Work
-clean_turn w = map (λ a. evict a w) (nearest (clean_at w.cache.rows) (recency_list w.cache))
+clean_turn w = option_map (λ a. evict a w) (nearest (clean_at w.cache.rows) (recency_list w.cache))
 
 -- What a turn leaves; without one all stays.
 abbrev pub or_stay : Option Work → Work → Work
-or_stay none w = w
-or_stay (some v) w = v
+or_stay None w = w
+or_stay (Some v) w = v
 
 -- At most n turns, while room is lacking.
 unfoldable pub turns : ℕ → (Work → Option Work) → ℕ → Bool → Work → Work

@@ -1,6 +1,6 @@
-// What a request answers. The numbers are in specs/Answers.antt.
+// Why a request is refused. What it answers is in specs/Types.antt, the numbers of refusals in specs/Answers.antt.
 
-// Why a request is refused, by rising number from 1.
+// By rising number from 1.
 #[derive(Clone, Copy)]
 pub enum Refusal {
     // 1: the row count, the table's length or its words.
@@ -25,7 +25,7 @@ pub enum Refusal {
     Pinned,
     // 11: no row is free and no entry may be evicted.
     Full,
-    // 12: a setting is bad, the lowest bad field's number.
+    // 12: a setting is bad, the lowest bad field's number. A number and no enum: `refusal_field` answers it to C.
     Setting(u64),
     // 13: the taken list names an address twice, or one not dirty here.
     List,
@@ -35,18 +35,4 @@ pub enum Refusal {
     Malformed,
     // 16: the message has not the next number, or no number is left to send.
     Number,
-}
-
-#[derive(Clone, Copy)]
-pub enum Answer {
-    // 0, with the number of orders.
-    Accepted(u64),
-    Refused(Refusal),
-}
-
-// What a request would be answered: accepted, or why not.
-#[derive(Clone, Copy)]
-pub enum Verdict {
-    Accepted,
-    Refused(Refusal),
 }

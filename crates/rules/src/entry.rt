@@ -1,4 +1,4 @@
-// An entry and the row that it stands in.
+// An entry.
 
 // A hold: free, read by 1 to 65,535 readers, or held for writing.
 #[derive(Clone, Copy)]
@@ -21,10 +21,4 @@ pub struct Entry {
     // The pin mark.
     pub pinned: bool,
     pub hold: Hold,
-}
-
-#[derive(Clone, Copy)]
-pub enum Row {
-    Free,
-    Used(Entry),
 }

@@ -16,7 +16,7 @@ pub struct Report {
     pub count: u64,
     // Whether a list is due.
     pub due: bool,
-    // The number of the next list, 0 when none is left.
+    // The number of the next list; 0 when none is left, as a word of the table and C have it.
     pub next: u64,
     // The bytes of the entries with each idle count, 0 to 10.
     pub totals: [u64; 11],

@@ -2,7 +2,7 @@
 use Prim.Native.Nat.{ℕ}
 use mathlib.Core.Bool.{true, false}
 use mathlib.Core.List.{List, [], ◌∷◌}
-use mathlib.Core.Option.{none, some}
+use Rattle.std.specs.Prelude.{None, Some, Ok}
 use mathlib.Core.Path.{◌≡◌, refl, ◌∙◌}
 use lib.Dec.{lit≤}
 use lib.ListN.{length, length-replicate}
@@ -18,7 +18,6 @@ use Rattle.rules.specs.Opening.{refusal_of_opening}
 use Rattle.rules.specs.Refusals.{Call, refusal_of}
 use Rattle.rules.specs.Requests.{step}
 use Rattle.rules.specs.Sides.{Side, one, two, other, Pair, at, put}
-use Rattle.rules.specs.declared.answer.Verdict.TheVariants as verdict
 use Rattle.rules.specs.declared.request.Access.TheVariants.{Reading}
 use Rattle.settings.specs.declared.Mode.TheVariants.{Lead, Standby}
 use Rattle.rules.specs.declared.request.Request.{Request}
@@ -38,8 +37,8 @@ pub record Played (t : ℕ) (h : Pair Cache) (l : Ledger) (p : Outstanding) : Ty
   pub run : AskedRun t tables l p
 
 -- what a table says, by the rules on its cache
-says_yes : {ws : List ℕ} {c : Cache} → Pictures ws c → (r : Request) (lent : ℕ) → refusal_of c (asking r [] lent) ≡ none
-    → ask_words ws (length (zeros lent)) [] r ≡ verdict.Accepted
+says_yes : {ws : List ℕ} {c : Cache} → Pictures ws c → (r : Request) (lent : ℕ) → refusal_of c (asking r [] lent) ≡ None
+    → ask_words ws (length (zeros lent)) [] r ≡ Ok tt
 unfolding ask_words
 says_yes k r lent e = rw (length-replicate {A = ℕ} lent 0, k.passes, k.cache, e)
 
@@ -49,7 +48,7 @@ goes : {t : ℕ} {h : Pair Cache} {l m : Ledger} {p q : Outstanding} (k : Played
     → Pictures ws c → AskedRun t (put x ws k.tables) m q → Played t (put x c h) m q
 goes k x w r = record { tables = _; pictures = one_goes x k.pictures w; run = r }
 
-opened : {t : ℕ} (n m : ℕ) (s : Settings) → FloatsFit s → refusal_of_opening n true (some Lead) t s ≡ none → refusal_of_opening m true (some Standby) t s ≡ none
+opened : {t : ℕ} (n m : ℕ) (s : Settings) → FloatsFit s → refusal_of_opening n true (Some Lead) t s ≡ None → refusal_of_opening m true (Some Standby) t s ≡ None
     → Played t (record { one = fresh n Lead t s; two = fresh m Standby t s }) blank nothing
 opened {t} n m s f h k =
     let a = zeros (layout_words n) in
@@ -75,7 +74,7 @@ module _ {t : ℕ} {h : Pair Cache} {l : Ledger} {p : Outstanding} (x : Side) (c
 
 module _ {t : ℕ} {h : Pair Cache} {l : Ledger} {r : Request} (x : Side) (k : Shared r) (lent : ℕ) where
   -- both say yes, and one has the change
-  begins : refusal_of (at x h) (asking r [] lent) ≡ none → refusal_of (at (other x) h) (asking r [] lent) ≡ none → Played t h l nothing
+  begins : refusal_of (at x h) (asking r [] lent) ≡ None → refusal_of (at (other x) h) (asking r [] lent) ≡ None → Played t h l nothing
       → Played t (put x (step (at x h) (asking r [] lent)).cache h) l (doing x k (length (zeros lent)) [])
   begins e f b =
       let os = zeros lent in

@@ -1,4 +1,5 @@
 -- What a table stores of "full" is what happened in its run.
+use Rattle.std.specs.Prelude.{Ok}
 use Prim.Native.Nat.{ℕ}
 use mathlib.Core.List.{List, map}
 use mathlib.Core.Path.{◌≡◌, refl, ap, ◌∙◌}
@@ -7,7 +8,6 @@ use Rattle.settings.specs.declared.Mode.{Mode}
 use Rattle.settings.specs.declared.Settings.{Settings}
 use Rattle.settings_words.specs.FloatsFit.{FloatsFit}
 use Rattle.settings_words.specs.Words.{flag_word}
-use Rattle.rules.specs.declared.answer.Answer.TheVariants.{Accepted}
 use Rattle.rules.specs.Cache.{Cache, fresh}
 use Rattle.rules.specs.Full.{found_since, events_in}
 use Rattle.rules.proofs.Full.{tells_truth}
@@ -24,7 +24,7 @@ unfolding encode
 stored c rest = refl
 
 -- from an opening on, in every mode: the word is 1 if making room found held plus incoming above the maximum since the counters last restarted, else 0
-pub tables_tell : (ws : List ℕ) (n : ℕ) (m : Mode) (t : ℕ) (s : Settings) → FloatsFit s → (open_words ws n m t s).answer ≡ Accepted 0
+pub tables_tell : (ws : List ℕ) (n : ℕ) (m : Mode) (t : ℕ) (s : Settings) → FloatsFit s → (open_words ws n m t s).answer ≡ Ok 0
     → (calls : List TableCall)
     → get_or (table_past (open_words ws n m t s).table calls).table exceeded_at 0 ≡ flag_word (found_since (events_in (fresh n m t s) (map call_of calls)))
 tables_tell ws n m t s f h calls =

@@ -1,8 +1,9 @@
 -- The history of held bytes over tables: a run on a table is a run on the cache that it pictures.
+use Rattle.std.specs.Prelude.{Ok}
 use Prim.Native.Nat.{ℕ, ◌+◌}
 use mathlib.Core.Bool.{true}
 use mathlib.Core.List.{List, [], ◌∷◌, map}
-use mathlib.Core.Path.{◌≡◌, refl, sym, ap, subst, ◌∙◌}
+use mathlib.Core.Path.{◌≡◌, refl, ap, ◌∙◌}
 use lib.ListN.{length}
 use Rattle.settings.specs.declared.Settings.{Settings}
 use Rattle.settings_words.specs.FloatsFit.{FloatsFit}
@@ -14,12 +15,11 @@ use Rattle.rules.specs.Hosts.{accepted, asking}
 use Rattle.rules.specs.History.{evicted_bytes, next, Past, past, plus}
 use Rattle.rules.specs.Reports.{report_of}
 use Rattle.rules.specs.Requests.{Outcome, effect}
-use Rattle.rules.specs.declared.answer.Answer.TheVariants.{Accepted}
 use Rattle.settings.specs.declared.Mode.{Mode}
 use Rattle.rules.specs.declared.request.Request.{Request}
 use Rattle.layout.specs.Picture.{cache_in}
 use Rattle.judge.specs.Verdict.{judge_words}
-use Rattle.runs.specs.History.{TableCall, call_of, evicted_in, TablePast, added_to, table_past, Balances, TableBalanced, ReportBalanced}
+use Rattle.runs.specs.History.{TableCall, call_of, evicted_in, TablePast, added_to, table_past, TableBalanced, ReportBalanced}
 use Rattle.runs.specs.Hosts.{accepts}
 use Rattle.cache.specs.Tables.{Left, carried_out, step_words, open_words}
 use Rattle.cache.proofs.StepAnswers.{carried}
@@ -79,14 +79,14 @@ same_past ws c (call ∷ calls) h = goes_on (table_past ws calls) (past c (map c
 
 -- ---- from an opening on, in every mode
 
-pub tables_balanced : (ws : List ℕ) (n : ℕ) (m : Mode) (t : ℕ) (s : Settings) → FloatsFit s → (open_words ws n m t s).answer ≡ Accepted 0
+pub tables_balanced : (ws : List ℕ) (n : ℕ) (m : Mode) (t : ℕ) (s : Settings) → FloatsFit s → (open_words ws n m t s).answer ≡ Ok 0
     → (calls : List TableCall) → TableBalanced (table_past (open_words ws n m t s).table calls)
 tables_balanced ws n m t s f h calls =
     let k = same_past (open_words ws n m t s).table (fresh n m t s) calls (pictures_fresh ws n m t s f h) in
     rw (k.pictures.cache, k.brought, k.grown, k.evicted, k.discarded, k.shrunk) (balanced n m t s (map call_of calls))
 
 -- and the held bytes of the report balance too
-pub reports_balanced : (ws : List ℕ) (n : ℕ) (m : Mode) (t : ℕ) (s : Settings) → FloatsFit s → (open_words ws n m t s).answer ≡ Accepted 0
+pub reports_balanced : (ws : List ℕ) (n : ℕ) (m : Mode) (t : ℕ) (s : Settings) → FloatsFit s → (open_words ws n m t s).answer ≡ Ok 0
     → (calls : List TableCall) → ReportBalanced (table_past (open_words ws n m t s).table calls)
 unfolding report_of
 reports_balanced ws n m t s f h calls =
@@ -94,6 +94,7 @@ reports_balanced ws n m t s f h calls =
     let k = same_past (open_words ws n m t s).table (fresh n m t s) calls (pictures_fresh ws n m t s f h) in
     let x = reported (record { passes = k.pictures.passes; cache = refl }) in
     record {
-      answer = ap (λ r. r.answer) x;
-      held = subst (λ (b : ℕ). Balances b p) (sym (ap (λ r. r.report.held) x)) (tables_balanced ws n m t s f h calls);
+      report = report_of (cache_in p.table);
+      answer = x;
+      held = tables_balanced ws n m t s f h calls;
     }

@@ -1,4 +1,5 @@
 -- Demand 3 over tables: a run on tables is a run of the caches that they picture, and what the words say is what those say.
+use Rattle.std.specs.Prelude.{Err, Ok}
 use Prim.Native.Nat.{ℕ, zero, suc, ◌+◌}
 use mathlib.Core.Bool.{Bool, true, true≢false}
 use mathlib.Core.List.{List, [], ◌∷◌}
@@ -17,8 +18,7 @@ use Rattle.rules.specs.Reports.{report_of}
 use Rattle.rules.specs.Requests.{Outcome, effect, step}
 use Rattle.rules.specs.Rows.{get}
 use Rattle.rules.specs.Sides.{Side, one, two, other, Pair, at, put}
-use Rattle.rules.specs.declared.answer.Answer.{Answer}
-use Rattle.rules.specs.declared.answer.Answer.TheVariants.{Refused}
+use Rattle.rules.specs.Types.{Answer}
 use Rattle.rules.specs.declared.answer.Refusal.TheVariants as refusal
 use Rattle.settings.specs.declared.Mode.TheVariants.{Lead, Standby}
 use Rattle.rules.specs.declared.request.Request.{Request}
@@ -26,7 +26,7 @@ use Rattle.rules.specs.declared.request.Request.TheVariants.{Take}
 use Rattle.layout.specs.Layout.{row_at}
 use Rattle.layout.specs.Picture.{entry_of, rows_of, cache_in}
 use Rattle.runs.specs.Hosts.{accepts, list_in, next_in, message_from, FloatsOf, TableRun, sent_on, taken_on, dirty_in, ledger_in, due_in, TablesAgree, ReportsAgree}
-use Rattle.cache.specs.Tables.{left, carried_out, step_words}
+use Rattle.cache.specs.Tables.{left, carried_out, step_words, report_words}
 use Rattle.cache.proofs.StepAnswers.{carried}
 use Rattle.runs.proofs.Pictured.{Pictures, accepts_as, same_step, tells, pictures_next, pictures_still, open_allowed, BothPicture, one_goes, both_fresh, reported}
 use Rattle.runs.proofs.Read.{sends_writes, writes_back}
@@ -156,19 +156,23 @@ tables_agree run =
       next = next_in_same (k.pictures.side one) ∙ d.next ∙ sym (next_in_same (k.pictures.side two));
     }
 
+-- both tables give the reports of their caches
+both_reported : {h : Pair (List ℕ)} {c : Pair Cache} → BothPicture h c → (x : Side) → report_words (at x h) ≡ Ok (at x (record { one = report_of c.one; two = report_of c.two }))
+both_reported k one = reported (k.side one)
+both_reported k two = reported (k.side two)
+
 -- the reports say the same
 pub reports_agree : {t : ℕ} {h : Pair (List ℕ)} {l : Ledger} → TableRun t h l settled → ReportsAgree h
 unfolding report_of
 reports_agree run =
     let k = follows run in
     let d = demand3 k.run in
-    let a = reported (k.pictures.side one) in
-    let b = reported (k.pictures.side two) in
     record {
-      answer = λ x. ap (λ r. r.answer) (reported (k.pictures.side x));
-      count = ap (λ r. r.report.count) a ∙ ap (λ l. l.count) (d.ledger one ∙ sym (d.ledger two)) ∙ sym (ap (λ r. r.report.count) b);
-      due = ap (λ r. r.report.due) a ∙ d.due ∙ sym (ap (λ r. r.report.due) b);
-      next = ap (λ r. r.report.next) a ∙ d.next ∙ sym (ap (λ r. r.report.next) b);
+      report = record { one = report_of k.caches.one; two = report_of k.caches.two };
+      answer = both_reported k.pictures;
+      count = ap (λ l. l.count) (d.ledger one ∙ sym (d.ledger two));
+      due = d.due;
+      next = d.next;
     }
 
 -- ---- the messages
@@ -189,8 +193,8 @@ taken_as_sent run = let k = follows run in sym k.taken ∙ all_taken k.run ∙ k
 
 -- one that was sent before is refused with 16, and no lent word changes
 again_refused : {ws : List ℕ} {c : Cache} → Pictures ws c → (os : List ℕ) (messages : List (List ℕ))
-    → Each (λ message. (step c (asking Take message (length os))).answer ≡ Refused refusal.Number) messages
-    → Each (λ message. step_words ws os message Take ≡ left (Refused refusal.Number) ws os) messages
+    → Each (λ message. (step c (asking Take message (length os))).answer ≡ Err refusal.Number) messages
+    → Each (λ message. step_words ws os message Take ≡ left (Err refusal.Number) ws os) messages
 again_refused k os [] e = tt
 again_refused {ws} k os (message ∷ earlier) e =
     let s = same_step k os message Take refl in (
@@ -200,8 +204,8 @@ again_refused {ws} k os (message ∷ earlier) e =
     )
 
 pub refused_again : {t : ℕ} {h : Pair (List ℕ)} {l : Ledger} (run : TableRun t h l settled) (os : List ℕ)
-    → Each (λ message. step_words h.two os message Take ≡ left (Refused refusal.Number) h.two os) (sent_on run)
+    → Each (λ message. step_words h.two os message Take ≡ left (Err refusal.Number) h.two os) (sent_on run)
 refused_again {h = h} run os =
     let k = follows run in
-    subst (Each (λ message. step_words h.two os message Take ≡ left (Refused refusal.Number) h.two os)) k.sent
+    subst (Each (λ message. step_words h.two os message Take ≡ left (Err refusal.Number) h.two os)) k.sent
     (again_refused (k.pictures.side two) os (sent_in k.run) (sent_before k.run (length os)))

@@ -2,7 +2,7 @@
 use Prim.Native.Nat.{ℕ}
 use mathlib.Core.Bool.{Bool, true, false, true≢false, ◌||◌}
 use mathlib.Core.List.{List, []}
-use mathlib.Core.Option.{Option, none, some}
+use Rattle.std.specs.Prelude.{Option, None, Some, Ok}
 use mathlib.Core.Path.{◌≡◌, refl, sym, ap, ◌∙◌}
 use lib.Dec.{eqb, leb, ltb}
 use lib.ListN.{length, drop}
@@ -21,8 +21,7 @@ use Rattle.rules.specs.Reports.{report_of}
 use Rattle.rules.specs.Refusals.{Call}
 use Rattle.rules.specs.Requests.{Outcome, step}
 use Rattle.rules.specs.Sides.{Side, one, two, Pair, at, put}
-use Rattle.rules.specs.declared.answer.Answer.TheVariants.{Accepted, Refused}
-use Rattle.rules.specs.declared.answer.Answer.{Answer}
+use Rattle.rules.specs.Types.{Answer}
 use Rattle.rules.specs.declared.answer.Refusal.{Refusal}
 use Rattle.settings.specs.declared.Mode.TheVariants.{Lead, Standby}
 use Rattle.settings.specs.declared.Mode.{Mode}
@@ -92,26 +91,26 @@ module _ {ws : List ℕ} {c : Cache} (k : Pictures ws c) (os message : List ℕ)
 -- ---- opening
 
 -- a table that is too short is refused
-short : (n : ℕ) (m : Option Mode) (t : ℕ) (s : Settings) → refusal_of_opening n false m t s ≡ none → ⊥
+short : (n : ℕ) (m : Option Mode) (t : ℕ) (s : Settings) → refusal_of_opening n false m t s ≡ None → ⊥
 unfolding refusal_of_opening
 short n m t s e = true≢false (sym (or_true (eqb n 0 || ltb most_rows n)) ∙ (failed _ e).0)
 
-opened_none : (o : Option Refusal) (ws : List ℕ) (n : ℕ) (c : Cache) → (opened_with o ws n c).answer ≡ Accepted 0 → o ≡ none
-opened_none none ws n c e = refl
-opened_none (some r) ws n c e = absurd (true≢false (ap (λ (a : Answer). accepted (record { answer = a; cache = c; orders = [] })) (sym e)))
+opened_none : (o : Option Refusal) (ws : List ℕ) (n : ℕ) (c : Cache) → (opened_with o ws n c).answer ≡ Ok 0 → o ≡ None
+opened_none None ws n c e = refl
+opened_none (Some r) ws n c e = absurd (true≢false (ap (λ (a : Answer). accepted (record { answer = a; cache = c; orders = [] })) (sym e)))
 
-module _ (ws : List ℕ) (n : ℕ) (m : Mode) (t : ℕ) (s : Settings) (f : FloatsFit s) (h : (open_words ws n m t s).answer ≡ Accepted 0) where
-  not_refused : refusal_of_opening n (leb (layout_words n) (length ws)) (some m) t s ≡ none
+module _ (ws : List ℕ) (n : ℕ) (m : Mode) (t : ℕ) (s : Settings) (f : FloatsFit s) (h : (open_words ws n m t s).answer ≡ Ok 0) where
+  not_refused : refusal_of_opening n (leb (layout_words n) (length ws)) (Some m) t s ≡ None
   unfolding open_words
-  not_refused = opened_none (refusal_of_opening n (leb (layout_words n) (length ws)) (some m) t s) ws n (fresh n m t s) h
+  not_refused = opened_none (refusal_of_opening n (leb (layout_words n) (length ws)) (Some m) t s) ws n (fresh n m t s) h
 
   -- the table is long enough, and nothing else is refused
-  pub open_allowed : refusal_of_opening n true (some m) t s ≡ none
+  pub open_allowed : refusal_of_opening n true (Some m) t s ≡ None
   open_allowed = go (leb (layout_words n) (length ws)) not_refused
     where
-      go : (b : Bool) → refusal_of_opening n b (some m) t s ≡ none → refusal_of_opening n true (some m) t s ≡ none
+      go : (b : Bool) → refusal_of_opening n b (Some m) t s ≡ None → refusal_of_opening n true (Some m) t s ≡ None
       go true e = e
-      go false e = absurd (short n (some m) t s e)
+      go false e = absurd (short n (Some m) t s e)
 
   pub pictures_fresh : Pictures (open_words ws n m t s).table (fresh n m t s)
   unfolding open_words
@@ -126,7 +125,7 @@ pub record BothPicture (h : Pair (List ℕ)) (k : Pair Cache) : Type 0 where
 pub one_goes : {h : Pair (List ℕ)} {k : Pair Cache} (x : Side) {ws : List ℕ} {c : Cache} → BothPicture h k → Pictures ws c → BothPicture (put x ws h) (put x c k)
 one_goes x b p = record { side = each_put (λ y ws c. Pictures ws c) x p b.side }
 
-module _ (a b : List ℕ) (n m t : ℕ) (s u : Settings) (f : FloatsFit s) (g : FloatsFit u) (h : (open_words a n Lead t s).answer ≡ Accepted 0) (k : (open_words b m Standby t u).answer ≡ Accepted 0) where
+module _ (a b : List ℕ) (n m t : ℕ) (s u : Settings) (f : FloatsFit s) (g : FloatsFit u) (h : (open_words a n Lead t s).answer ≡ Ok 0) (k : (open_words b m Standby t u).answer ≡ Ok 0) where
   pub both_fresh : BothPicture (record { one = (open_words a n Lead t s).table; two = (open_words b m Standby t u).table }) (record { one = fresh n Lead t s; two = fresh m Standby t u })
   both_fresh = record { side = go }
     where
@@ -136,6 +135,6 @@ module _ (a b : List ℕ) (n m t : ℕ) (s u : Settings) (f : FloatsFit s) (g : 
 
 -- ---- the report
 
-pub reported : {ws : List ℕ} {c : Cache} → Pictures ws c → report_words ws ≡ record { answer = Accepted 0; report = report_of c }
+pub reported : {ws : List ℕ} {c : Cache} → Pictures ws c → report_words ws ≡ Ok (report_of c)
 unfolding report_words
 reported k = rw (k.passes, k.cache)

@@ -13,7 +13,7 @@ use Rattle.rules.specs.Ledger.{Sends, flush, sync}
 use Rattle.rules.specs.Requests.{effect, writes_of}
 use Rattle.rules.specs.Room.{share_missing, write_dirty, write_in_place}
 use Rattle.rules.specs.Rows.{dirty_at, dirty_rising}
-use Rattle.rules.specs.declared.entry.Row.{Row}
+use Rattle.rules.specs.Types.{Row}
 use Rattle.rules.specs.declared.order.Kind.TheVariants.{Write, Evict, Load}
 use Rattle.rules.specs.declared.order.Kind.{Kind}
 use Rattle.rules.specs.declared.order.Order.{Order}

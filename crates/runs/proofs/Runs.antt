@@ -2,7 +2,7 @@
 use Prim.Native.Nat.{ℕ}
 use mathlib.Core.Bool.{true, false}
 use mathlib.Core.List.{List}
-use mathlib.Core.Option.{none, some}
+use Rattle.std.specs.Prelude.{None, Some, Ok}
 use mathlib.Core.Path.{◌≡◌, ap, ◌∙◌}
 use native.Mathlib.Omega.{arith}
 use lib.Dec.{leb}
@@ -18,7 +18,6 @@ use Rattle.rules.specs.Hosts.{Run, Pending, settled, asking}
 use Rattle.rules.specs.Ledger.{Ledger}
 use Rattle.rules.specs.Opening.{refusal_of_opening}
 use Rattle.rules.specs.Sides.{Side, other, Pair, put}
-use Rattle.rules.specs.declared.answer.Answer.TheVariants.{Accepted}
 use Rattle.settings.specs.declared.Mode.TheVariants.{Lead, Standby}
 use Rattle.settings.specs.declared.Mode.{Mode}
 use Rattle.rules.specs.declared.request.Request.{Request}
@@ -56,7 +55,7 @@ with_blank r message lent = ap (asking r message) (length-replicate {A = ℕ} le
 
 -- ---- opening
 
-pub opens : (n : ℕ) (m : Mode) (t : ℕ) (s : Settings) → refusal_of_opening n true (some m) t s ≡ none → (open_words (blank (layout_words n)) n m t s).answer ≡ Accepted 0
+pub opens : (n : ℕ) (m : Mode) (t : ℕ) (s : Settings) → refusal_of_opening n true (Some m) t s ≡ None → (open_words (blank (layout_words n)) n m t s).answer ≡ Ok 0
 unfolding open_words
 opens n m t s h =
     let e : leb (layout_words n) (length (blank (layout_words n))) ≡ true = le-leb (layout_words n) (length (blank (layout_words n))) (let l = length-replicate {A = ℕ} (layout_words n) 0 in omega arith) in

@@ -2,7 +2,7 @@
 use Prim.Native.Nat.{ℕ}
 use mathlib.Core.Bool.{Bool, true, false}
 use mathlib.Core.List.{List}
-use mathlib.Core.Option.{none}
+use Rattle.std.specs.Prelude.{None}
 use mathlib.Core.Path.{◌≡◌, refl, sym, subst, ◌∙◌}
 use Rattle.settings.specs.declared.Settings.{Settings}
 use Rattle.settings_words.specs.FloatsFit.{FloatsFit}
@@ -39,7 +39,7 @@ module _ (c : Cache) (lent : ℕ) (message : List ℕ) (k : Sound c) (p : Floats
   kept : {s : Settings} → s ≡ c.settings → FloatsFit s
   kept e = subst FloatsFit (sym e) p
 
-  floats_after : (r : Request) → first_of (tests c lent message r) ≡ none → FloatsOf r → FloatsFit (effect c message r).cache.settings
+  floats_after : (r : Request) → first_of (tests c lent message r) ≡ None → FloatsOf r → FloatsFit (effect c message r).cache.settings
   unfolding tests effect
   floats_after (Insert a s) h q = kept (moves_settings (room_moves {sets = false} s true (start (flashed s c)) (flash_sound s c k)) ∙ flash_settings s c)
   floats_after (Protect x a s) h q =

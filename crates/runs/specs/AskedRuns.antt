@@ -1,9 +1,7 @@
 -- Runs by asking: each shared change is asked of both tables before it is done.
-use Rattle.std.specs.Prelude.{ℕ, ◌≡◌, false, true, List, length}
+use Rattle.std.specs.Prelude.{ℕ, ◌≡◌, false, true, List, length, Ok}
 use Rattle.settings.specs.declared.Settings.{Settings}
 use Rattle.settings_words.specs.FloatsFit.{FloatsFit}
-use Rattle.rules.specs.declared.answer.Answer.TheVariants.{Accepted}
-use Rattle.rules.specs.declared.answer.Verdict.TheVariants as verdict
 use Rattle.settings.specs.declared.Mode.TheVariants.{Lead, Standby}
 use Rattle.rules.specs.declared.request.Request.{Request}
 use Rattle.rules.specs.declared.request.Request.TheVariants.{Take}
@@ -38,14 +36,14 @@ Free y (taking x message) = Unit
 -- table between its yes and its doing. No premise speaks of an answer that a host has not had when it goes on.
 pub data AskedRun (t : ℕ) : Pair (List ℕ) → Ledger → Outstanding → Type 0 where
   opened : (a b : List ℕ) (n m : ℕ) (s u : Settings) → FloatsFit s → FloatsFit u
-      → (open_words a n Lead t s).answer ≡ Accepted 0 → (open_words b m Standby t u).answer ≡ Accepted 0
+      → (open_words a n Lead t s).answer ≡ Ok 0 → (open_words b m Standby t u).answer ≡ Ok 0
       → AskedRun t (record { one = (open_words a n Lead t s).table; two = (open_words b m Standby t u).table }) blank nothing
   local : {h : Pair (List ℕ)} {l : Ledger} {p : Outstanding} (x : Side) (orders message : List ℕ) (r : Request) → Local r → FloatsOf r → Free x p
       → AskedRun t h l p → AskedRun t (put x (step_words (at x h) orders message r).table h) l p
   refuses : {h : Pair (List ℕ)} {l : Ledger} {p : Outstanding} (x : Side) (orders message : List ℕ) (r : Request) → accepts (step_words (at x h) orders message r) ≡ false → Free x p
       → AskedRun t h l p → AskedRun t (put x (step_words (at x h) orders message r).table h) l p
   begins : {h : Pair (List ℕ)} {l : Ledger} {r : Request} (x : Side) (k : Shared r) (orders message : List ℕ) (lent : ℕ) (theirs : List ℕ)
-      → ask_words (at x h) (length orders) message r ≡ verdict.Accepted → ask_words (at (other x) h) lent theirs r ≡ verdict.Accepted
+      → ask_words (at x h) (length orders) message r ≡ Ok tt → ask_words (at (other x) h) lent theirs r ≡ Ok tt
       → AskedRun t h l nothing → AskedRun t (put x (step_words (at x h) orders message r).table h) l (doing x k lent theirs)
   ends : {h : Pair (List ℕ)} {l : Ledger} {r : Request} (x : Side) (k : Shared r) (orders message : List ℕ)
       → AskedRun t h l (doing x k (length orders) message) → AskedRun t (put (other x) (step_words (at (other x) h) orders message r).table h) (hear k l) nothing

@@ -1,6 +1,6 @@
 -- The bytes that came and went over a run of requests on a table.
-use Rattle.std.specs.Prelude.{ℕ, zero, suc, ◌+◌, ◌-◌, ◌≡◌, List, [], ◌∷◌, eqb, length, get_or, drop, if◌then◌else◌}
-use Rattle.rules.specs.declared.answer.Answer.TheVariants.{Accepted}
+use Rattle.std.specs.Prelude.{ℕ, zero, suc, ◌+◌, ◌-◌, ◌≡◌, List, [], ◌∷◌, eqb, length, get_or, drop, if◌then◌else◌, Ok}
+use Rattle.rules.specs.declared.report.Report.{Report}
 use Rattle.rules.specs.declared.order.Kind.TheVariants.{Evict}
 use Rattle.rules.specs.declared.request.Request.{Request}
 use Rattle.rules.specs.Answers.{answer_orders}
@@ -68,5 +68,6 @@ TableBalanced p = Balances (held (cache_in p.table)) p
 
 -- The table's report is given, and its held bytes balance.
 pub record ReportBalanced (p : TablePast) : Type 0 where
-  pub answer : (report_words p.table).answer ≡ Accepted 0
-  pub held : Balances (report_words p.table).report.held p
+  pub report : Report
+  pub answer : report_words p.table ≡ Ok report
+  pub held : Balances report.held p

@@ -1,10 +1,9 @@
 -- A lead and a standby on their tables: the runs that demand 3 speaks of, and the demand, over the entry points on words.
-use Rattle.std.specs.Prelude.{ℕ, zero, suc, ◌+◌, ◌≡◌, Bool, true, false, not, ◌&&◌, List, [], ◌∷◌, ◌++◌, eqb, ltb, get_or, drop, if◌then◌else◌}
-use Rattle.std.proofs.Math.Option.{Option, none, some}
+use Rattle.std.specs.Prelude.{ℕ, zero, suc, ◌+◌, ◌≡◌, Bool, true, false, not, ◌&&◌, List, [], ◌∷◌, ◌++◌, eqb, ltb, get_or, drop, if◌then◌else◌, Option, None, Some, Ok}
 use Rattle.settings.specs.declared.Settings.{Settings}
 use Rattle.settings_words.specs.FloatsFit.{FloatsFit}
 use Rattle.settings_words.specs.Words.{flag_of}
-use Rattle.rules.specs.declared.answer.Answer.TheVariants.{Accepted}
+use Rattle.rules.specs.declared.report.Report.{Report}
 use Rattle.rules.specs.declared.order.Kind.TheVariants.{Write}
 use Rattle.settings.specs.declared.Mode.TheVariants.{Lead, Standby}
 use Rattle.rules.specs.declared.request.Request.{Request}
@@ -62,7 +61,7 @@ FloatsOf (Configure s) = FloatsFit s
 -- 64-bit number.
 pub data TableRun (t : ℕ) : Pair (List ℕ) → Ledger → Pending → Type 0 where
   opened : (a b : List ℕ) (n m : ℕ) (s u : Settings) → FloatsFit s → FloatsFit u
-      → (open_words a n Lead t s).answer ≡ Accepted 0 → (open_words b m Standby t u).answer ≡ Accepted 0
+      → (open_words a n Lead t s).answer ≡ Ok 0 → (open_words b m Standby t u).answer ≡ Ok 0
       → TableRun t (record { one = (open_words a n Lead t s).table; two = (open_words b m Standby t u).table }) blank settled
   local : {h : Pair (List ℕ)} {l : Ledger} {p : Pending} (x : Side) (orders message : List ℕ) (r : Request) → Local r → FloatsOf r
       → TableRun t h l p → TableRun t (put x (step_words (at x h) orders message r).table h) l p
@@ -102,10 +101,10 @@ taken_on (takes x orders message e run) = message ∷ taken_on run
 
 -- The size of the dirty record at an address, among n rows from row r on.
 unfoldable pub dirty_in : ℕ → ℕ → List ℕ → ℕ → Option ℕ
-dirty_in zero r ws a = none
+dirty_in zero r ws a = None
 dirty_in (suc n) r ws a =
     if not (eqb (get_or ws (row_at r + 1) 0) 0) && eqb (get_or ws (row_at r) 0) a
-    then (if flag_of (get_or ws (row_at r + 2) 0) then some (get_or ws (row_at r + 1) 0) else none)
+    then (if flag_of (get_or ws (row_at r + 2) 0) then Some (get_or ws (row_at r + 1) 0) else None)
     else dirty_in n (suc r) ws a
 
 -- The dirty records in a table's words, and its byte count.
@@ -125,7 +124,8 @@ pub record TablesAgree (h : Pair (List ℕ)) (l : Ledger) : Type 0 where
 
 -- Both reports are given, and they have the same byte count, say alike whether a list is due and have the same next number.
 pub record ReportsAgree (h : Pair (List ℕ)) : Type 0 where
-  pub answer : (x : Side) → (report_words (at x h)).answer ≡ Accepted 0
-  pub count : (report_words h.one).report.count ≡ (report_words h.two).report.count
-  pub due : (report_words h.one).report.due ≡ (report_words h.two).report.due
-  pub next : (report_words h.one).report.next ≡ (report_words h.two).report.next
+  pub report : Pair Report
+  pub answer : (x : Side) → report_words (at x h) ≡ Ok (at x report)
+  pub count : report.one.count ≡ report.two.count
+  pub due : report.one.due ≡ report.two.due
+  pub next : report.one.next ≡ report.two.next

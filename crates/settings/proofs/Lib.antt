@@ -1,3 +1,5 @@
 pub mod Tests
 pub mod Passed
+pub mod Places
+pub mod Floats
 pub mod Defaults

@@ -1,11 +1,10 @@
 -- The default settings. Definitions only.
-use Rattle.std.specs.Prelude.{true, Float}
+use Rattle.std.specs.Prelude.{true, Float, Some}
 use Rattle.fraction.specs.Fraction.{decimal}
 use Rattle.settings.specs.declared.Mode.{Mode}
 use Rattle.settings.specs.declared.Mode.TheVariants.{Alone, Lead, Standby}
 use Rattle.settings.specs.declared.Settings.{Settings}
 use Rattle.settings.specs.declared.Increase.TheVariants as increase
-use Rattle.settings.specs.declared.Cap.TheVariants as cap
 use Rattle.settings.specs.declared.Flash.TheVariants as flash
 use Rattle.settings.specs.declared.Decrease.TheVariants as decrease
 
@@ -27,10 +26,10 @@ defaults mode = record {
   smallest = 1048576;
   epoch = 50000;
   increase = increase.Threshold (decimal 9 10) (decimal 2 1);
-  increment = cap.Upto 4194304;
+  increment = Some 4194304;
   flash = flash.On (decimal 1 1) (decimal 25 100);
   decrease = decrease.AgeOutWithThreshold (decimal 999 1000) 3 (decimal 1 10);
-  decrement = cap.Upto 1048576;
+  decrement = Some 1048576;
 }
 
 -- The default settings of every mode before they went by the mode: "clean fraction 0.3" and the rest.
@@ -44,10 +43,10 @@ defaults_before = record {
   smallest = 1048576;
   epoch = 50000;
   increase = increase.Threshold (decimal 9 10) (decimal 2 1);
-  increment = cap.Upto 4194304;
+  increment = Some 4194304;
   flash = flash.On (decimal 1 1) (decimal 25 100);
   decrease = decrease.AgeOutWithThreshold (decimal 999 1000) 3 (decimal 1 10);
-  decrement = cap.Upto 1048576;
+  decrement = Some 1048576;
 }
 
 -- Settings with another minimum clean fraction.

@@ -1,5 +1,5 @@
 -- Worked cases, shown by computation: one table, and one statement that each case of it holds. Assumes nothing.
-use Rattle.std.specs.Prelude.{ℕ, ◌≡◌, refl, Bool, true, false, List, [], ◌∷◌, eqb, pos, Float}
+use Rattle.std.specs.Prelude.{ℕ, ◌≡◌, refl, Bool, true, false, List, [], ◌∷◌, eqb, pos, Float, None}
 use Rattle.std.specs.Float.{nan, inf, fin}
 use Rattle.std.specs.Float.Ieee.{round, le, lt, eq}
 use Rattle.fraction.specs.Fraction.{decimal}
@@ -8,7 +8,6 @@ use Rattle.settings.specs.declared.Mode.TheVariants.{Alone, Lead, Standby}
 use Rattle.settings.specs.declared.Settings.{Settings}
 use Rattle.settings.specs.declared.Increase.{Increase}
 use Rattle.settings.specs.declared.Increase.TheVariants as increase
-use Rattle.settings.specs.declared.Cap.TheVariants as cap
 use Rattle.settings.specs.declared.Flash.TheVariants as flash
 use Rattle.settings.specs.declared.Decrease.{Decrease}
 use Rattle.settings.specs.declared.Decrease.TheVariants as decrease
@@ -46,10 +45,10 @@ sample evictions preset clean largest smallest i d = record {
   smallest = smallest;
   epoch = 100;
   increase = i;
-  increment = cap.None;
+  increment = None;
   flash = flash.Off;
   decrease = d;
-  decrement = cap.None;
+  decrement = None;
 }
 
 abbrev with_clean : Float → Settings

@@ -1,9 +1,8 @@
 -- Ranges and limits of the settings. Definitions only.
-use Rattle.std.specs.Prelude.{ℕ, Bool, true, ◌&&◌, leb, Float}
+use Rattle.std.specs.Prelude.{ℕ, Bool, true, ◌&&◌, leb, Float, None, Some}
 use Rattle.std.specs.Float.Ieee.{le, lt}
 use Rattle.fraction.specs.Fraction.{decimal}
-use Rattle.settings.specs.declared.Cap.{Cap}
-use Rattle.settings.specs.declared.Cap.TheVariants as cap
+use Rattle.settings.specs.Types.{Cap}
 
 -- [low, high], of numbers and of fractions. What is no number lies in no range.
 abbrev pub within : ℕ → ℕ → ℕ → Bool
@@ -46,5 +45,5 @@ most_epochs = 10
 
 -- "none or up to 134,217,728"
 abbrev pub cap_allowed : Cap → Bool
-cap_allowed cap.None = true
-cap_allowed (cap.Upto n) = leb n largest_size
+cap_allowed None = true
+cap_allowed (Some n) = leb n largest_size

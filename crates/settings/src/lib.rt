@@ -12,14 +12,14 @@ mod validation;
 pub use validation::{decreases, first_bad_field, increases};
 
 // What part a cache plays; fixed at opening.
-#[derive(Clone, Copy)]
+#[derive(Clone, Copy, PartialEq, Eq)]
 pub enum Mode {
     Alone,
     Lead,
     Standby,
 }
 
-// The increase rule.
+// The increase rule. Off is one of its kinds, as of Decrease's four; no Option, so that all three rules read alike.
 #[derive(Clone, Copy)]
 pub enum Increase {
     Off,
@@ -27,15 +27,7 @@ pub enum Increase {
     Threshold { lower: f64, multiplier: f64 },
 }
 
-// The cap on one change of the maximum.
-#[derive(Clone, Copy)]
-pub enum Cap {
-    None,
-    // In bytes.
-    Upto(u64),
-}
-
-// The flash rule.
+// The flash rule. Off is a kind of it too.
 #[derive(Clone, Copy)]
 pub enum Flash {
     Off,
@@ -67,7 +59,7 @@ pub enum Decrease {
 pub struct Settings {
     // 1: evictions
     pub evictions: bool,
-    // 2: whether the initial size is set
+    // 2: whether the initial size is set; 3 stands also where it is not, since its stored word does
     pub preset: bool,
     // 3: initial size, in bytes
     pub initial: u64,
@@ -81,14 +73,14 @@ pub struct Settings {
     pub epoch: u64,
     // 8: increase rule
     pub increase: Increase,
-    // 9: cap on one increase
-    pub increment: Cap,
+    // 9: cap on one increase, in bytes
+    pub increment: Option<u64>,
     // 10: flash rule
     pub flash: Flash,
     // 11: decrease rule
     pub decrease: Decrease,
-    // 12: cap on one decrease
-    pub decrement: Cap,
+    // 12: cap on one decrease, in bytes
+    pub decrement: Option<u64>,
 }
 
 // The default minimum clean fraction of a mode.
@@ -97,8 +89,7 @@ fn default_clean(mode: Mode) -> f64
 {
     match mode {
         Mode::Alone => Settings::CLEAN_ALONE,
-        Mode::Lead => Settings::CLEAN,
-        Mode::Standby => Settings::CLEAN,
+        Mode::Lead | Mode::Standby => Settings::CLEAN,
     }
 }
 
@@ -151,7 +142,7 @@ impl Settings {
                 lower: Settings::LOWER,
                 multiplier: Settings::MULTIPLIER,
             },
-            increment: Cap::Upto(Settings::INCREMENT),
+            increment: Some(Settings::INCREMENT),
             flash: Flash::On {
                 multiple: Settings::MULTIPLE,
                 threshold: Settings::THRESHOLD,
@@ -161,7 +152,7 @@ impl Settings {
                 epochs: Settings::EPOCHS,
                 reserve: Settings::RESERVE,
             },
-            decrement: Cap::Upto(Settings::DECREMENT),
+            decrement: Some(Settings::DECREMENT),
         }
     }
 }

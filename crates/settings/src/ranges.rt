@@ -1,8 +1,6 @@
 // Ranges of numbers and fractions. What is no number lies in no range.
 ghost use Rattle.std.specs.Prelude.{◌≡◌};
-ghost use Rattle.settings.specs.Limits.{within, closed, open_below, unit, size_allowed, cap_allowed};
-
-use crate::Cap;
+ghost use Rattle.settings.specs.Limits.{within, open_below, unit, size_allowed, cap_allowed};
 
 // The sizes that a cache may have, and the largest cap on one change.
 const SMALLEST: u64 = 1024;
@@ -13,14 +11,7 @@ const LARGEST: u64 = 134217728;
 pub fn within(n: u64, low: u64, high: u64) -> bool
     ensures { result ≡ within low high n }
 {
-    (low <= n) & (n <= high)
-}
-
-// In [low, high].
-pub fn closed(x: f64, low: f64, high: f64) -> bool
-    ensures { result ≡ closed low high x }
-{
-    (low <= x) & (x <= high)
+    (low..=high).contains(&n)
 }
 
 // In (low, high].
@@ -34,7 +25,7 @@ pub fn open_below(x: f64, low: f64, high: f64) -> bool
 pub fn unit(x: f64) -> bool
     ensures { result ≡ unit x }
 {
-    closed(x, 0.0, 1.0)
+    (0.0..=1.0).contains(&x)
 }
 
 // Whether a maximum or minimum size may be n.
@@ -45,11 +36,11 @@ pub fn size_allowed(n: u64) -> bool
 }
 
 // Whether a cap may be c.
-pub fn cap_allowed(c: Cap) -> bool
+pub fn cap_allowed(c: Option<u64>) -> bool
     ensures { result ≡ cap_allowed c }
 {
     match c {
-        Cap::None => true,
-        Cap::Upto(n) => n <= LARGEST,
+        None => true,
+        Some(n) => n <= LARGEST,
     }
 }

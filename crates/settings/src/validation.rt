@@ -1,8 +1,8 @@
 // Which field of the settings is bad, if any.
-ghost use Rattle.std.specs.Prelude.{◌≡◌};
-ghost use Rattle.settings.specs.Validation.{increases, flashes, decreases, increase_allowed, below_upper, rates_in_order, flash_allowed, decrease_allowed, first_true, first_bad};
+ghost use Rattle.std.specs.Prelude.{◌≡◌, position};
+ghost use Rattle.settings.specs.Validation.{increases, flashes, decreases, increase_allowed, below_upper, rates_in_order, flash_allowed, decrease_allowed, first_bad};
 
-use crate::ranges::{cap_allowed, closed, open_below, size_allowed, unit, within};
+use crate::ranges::{cap_allowed, open_below, size_allowed, unit, within};
 use crate::{Decrease, Flash, Increase, Settings};
 
 // The epoch length's ends, in accesses.
@@ -19,42 +19,21 @@ const MOST_EPOCHS: u64 = 10;
 pub fn increases(i: Increase) -> bool
     ensures { result ≡ increases i }
 {
-    match i {
-        Increase::Off => false,
-        _ => true,
-    }
+    !matches!(i, Increase::Off)
 }
 
 // Whether the flash rule is on.
 fn flashes(f: Flash) -> bool
     ensures { result ≡ flashes f }
 {
-    match f {
-        Flash::Off => false,
-        _ => true,
-    }
+    !matches!(f, Flash::Off)
 }
 
 // Whether the decrease rule is on.
 pub fn decreases(d: Decrease) -> bool
     ensures { result ≡ decreases d }
 {
-    match d {
-        Decrease::Off => false,
-        Decrease::Threshold {
-            upper: _,
-            multiplier: _,
-        } => true,
-        Decrease::AgeOut {
-            epochs: _,
-            reserve: _,
-        } => true,
-        Decrease::AgeOutWithThreshold {
-            upper: _,
-            epochs: _,
-            reserve: _,
-        } => true,
-    }
+    !matches!(d, Decrease::Off)
 }
 
 // Whether the lower rate and the multiplier are in their ranges.
@@ -74,20 +53,10 @@ fn below_upper(lower: f64, d: Decrease) -> bool
     ensures { result ≡ below_upper lower d }
 {
     match d {
-        Decrease::Off => true,
-        Decrease::Threshold {
-            upper,
-            multiplier: _,
-        } => lower < upper,
-        Decrease::AgeOut {
-            epochs: _,
-            reserve: _,
-        } => true,
-        Decrease::AgeOutWithThreshold {
-            upper,
-            epochs: _,
-            reserve: _,
-        } => lower < upper,
+        Decrease::Off | Decrease::AgeOut { .. } => true,
+        Decrease::Threshold { upper, .. } | Decrease::AgeOutWithThreshold { upper, .. } => {
+            lower < upper
+        }
     }
 }
 
@@ -97,10 +66,7 @@ fn rates_in_order(i: Increase, d: Decrease) -> bool
 {
     match i {
         Increase::Off => true,
-        Increase::Threshold {
-            lower,
-            multiplier: _,
-        } => below_upper(lower, d),
+        Increase::Threshold { lower, .. } => below_upper(lower, d),
     }
 }
 
@@ -113,7 +79,7 @@ fn flash_allowed(f: Flash) -> bool
         Flash::On {
             multiple,
             threshold,
-        } => closed(multiple, 0.1, 10.0) & closed(threshold, 0.1, 1.0),
+        } => (0.1..=10.0).contains(&multiple) & (0.1..=1.0).contains(&threshold),
     }
 }
 
@@ -134,44 +100,37 @@ fn decrease_allowed(d: Decrease) -> bool
     }
 }
 
-// The place of the first that is true, counted from 1, and 0 if none is.
-fn first_true(bad: &[bool]) -> u64
-    ensures { result ≡ first_true 1 bad.now }
+// The index of the first that is true, if one is.
+fn first_true(bad: &[bool]) -> Option<usize>
+    ensures { result ≡ position (λ b. b) bad.now }
 {
-    let mut i = 0;
-    while i < bad.len() {
-        if bad[i] {
-            return (i + 1) as u64;
-        }
-        i += 1;
-    }
-    0
+    bad.iter().position(|b| *b)
 }
 
 // The number of the lowest bad field, 0 if none is bad. Opening needs the initial size set.
+// No Option: `first_bad` (specs/Validation.antt), and the theorems on it, count the fields from 1 and have 0 for none.
 pub fn first_bad_field(s: Settings, opening: bool) -> u64
     ensures { result ≡ first_bad s opening }
 {
-    let i = s.increase;
-    let f = s.flash;
-    let d = s.decrease;
-    let increase_cap = s.increment;
-    let decrease_cap = s.decrement;
-    let evictions = !s.evictions & (increases(i) | flashes(f) | decreases(d));
+    let evictions = !s.evictions
+        & (increases(s.increase) | flashes(s.flash) | decreases(s.decrease));
     let preset = opening & !s.preset;
     let initial = s.preset & !within(s.initial, s.smallest, s.largest);
     let clean = !unit(s.clean);
     let largest = !size_allowed(s.largest);
     let smallest = !size_allowed(s.smallest) | (s.largest < s.smallest);
     let epoch = !within(s.epoch, SHORTEST_EPOCH, LONGEST_EPOCH);
-    let increase = !increase_allowed(i) | !rates_in_order(i, d);
-    let increment = !cap_allowed(increase_cap);
-    let flash = !flash_allowed(f);
-    let decrease = !decrease_allowed(d);
-    let decrement = !cap_allowed(decrease_cap);
+    let increase = !increase_allowed(s.increase) | !rates_in_order(s.increase, s.decrease);
+    let increment = !cap_allowed(s.increment);
+    let flash = !flash_allowed(s.flash);
+    let decrease = !decrease_allowed(s.decrease);
+    let decrement = !cap_allowed(s.decrement);
     let bad = [
         evictions, preset, initial, clean, largest, smallest, epoch, increase, increment, flash,
         decrease, decrement,
     ];
-    first_true(&bad)
+    match first_true(&bad) {
+        Some(index) => index as u64 + 1,
+        None => 0,
+    }
 }

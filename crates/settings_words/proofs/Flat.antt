@@ -1,13 +1,13 @@
 -- The words of the settings one by one. Assumes nothing.
+use Rattle.std.specs.Prelude.{None, Some}
 use Prim.Native.Nat.{ℕ}
-use mathlib.Core.Path.{◌≡◌, refl, sym, ap}
+use mathlib.Core.Path.{◌≡◌, refl, ap}
 use mathlib.Core.List.{List, [], ◌∷◌, ◌++◌}
 use lib.ListN.{get_or, length}
 use Rattle.settings.specs.declared.Settings.{Settings}
 use Rattle.settings.specs.declared.Increase.{Increase}
 use Rattle.settings.specs.declared.Increase.TheVariants as increase
-use Rattle.settings.specs.declared.Cap.{Cap}
-use Rattle.settings.specs.declared.Cap.TheVariants as cap
+use Rattle.settings.specs.Types.{Cap}
 use Rattle.settings.specs.declared.Flash.{Flash}
 use Rattle.settings.specs.declared.Flash.TheVariants as flash
 use Rattle.settings.specs.declared.Decrease.{Decrease}
@@ -25,13 +25,13 @@ abbrev four : List ℕ → List ℕ → List ℕ
 four l t = get_or l 0 0 ∷ get_or l 1 0 ∷ get_or l 2 0 ∷ get_or l 3 0 ∷ t
 
 of_cap : (c : Cap) → cap_words c ≡ two (cap_words c) []
-of_cap cap.None = refl
-of_cap (cap.Upto n) = refl
+of_cap None = refl
+of_cap (Some n) = refl
 
 module _ (t : List ℕ) where
   of_cap_then : (c : Cap) → cap_words c ++ t ≡ two (cap_words c) t
-  of_cap_then cap.None = refl
-  of_cap_then (cap.Upto n) = refl
+  of_cap_then None = refl
+  of_cap_then (Some n) = refl
 
   of_increase : (i : Increase) → increase_words i ++ t ≡ three (increase_words i) t
   of_increase increase.Off = refl
@@ -56,11 +56,6 @@ module _ (s : Settings) where
   pub words_flat : settings_words s ≡ flat (flag_word s.evictions) (flag_word s.preset) (word s.clean) (increase_words s.increase) (cap_words s.increment) (flash_words s.flash) (decrease_words s.decrease) (cap_words s.decrement)
   unfolding settings_words
   words_flat = rw (of_cap s.decrement, of_decrease _ s.decrease, of_flash _ s.flash, of_cap_then _ s.increment, of_increase _ s.increase)
-
-  pub laid : {e p c : ℕ} {i ic f d dc : List ℕ}
-      → e ≡ flag_word s.evictions → p ≡ flag_word s.preset → c ≡ word s.clean → i ≡ increase_words s.increase → ic ≡ cap_words s.increment
-      → f ≡ flash_words s.flash → d ≡ decrease_words s.decrease → dc ≡ cap_words s.decrement → flat e p c i ic f d dc ≡ settings_words s
-  laid e p c i ic f d dc = rw (e, p, c, i, ic, f, d, dc) (sym words_flat)
 
   pub words_length : length (settings_words s) ≡ 21
   words_length = ap length words_flat

@@ -1,33 +1,28 @@
 -- Which words are a picture: exactly the words of settings that configuring passes. Assumes nothing.
 use Prim.Native.Nat.{ℕ}
-use mathlib.Core.Path.{◌≡◌, refl, sym, subst}
+use mathlib.Core.Path.{◌≡◌, refl}
 use mathlib.Core.Bool.{Bool, true, false, cond}
-use mathlib.Core.List.{List, [], ◌∷◌, ◌++◌}
-use lib.Dec.{T, eqb}
+use mathlib.Core.List.{List, ◌++◌}
+use lib.Dec.{eqb}
 use lib.ListN.{length, drop, get_or}
 use lib.Ieee.{binary64}
 use lib.Ieee.Bits.{of_bits-fits}
-use borrow.Author.Tests.{eqb-true, eq-eqb}
+use borrow.Author.Tests.{eqb-true}
+use Rattle.std.specs.List.{starts_with}
+use Rattle.std.proofs.lemmas.Bool.Decides.{Decides-eqb}
+use Rattle.std.proofs.lemmas.Slice.Eq.{starts_is}
 use Rattle.settings.proofs.Tests.{both}
 use Rattle.settings.specs.declared.Settings.{Settings}
 use Rattle.settings.specs.Validation.{first_bad}
 use Rattle.settings_words.specs.Words.{settings_words}
 use Rattle.settings_words.specs.FloatsFit.{FloatFits, IncreaseFits, FlashFits, DecreaseFits, FloatsFit}
-use Rattle.settings_words.specs.Picture.{float, settings_of, starts_with, picture}
+use Rattle.settings_words.specs.Picture.{float, settings_of, picture}
 use Rattle.settings_words.proofs.Flat.{words_length}
 use Rattle.settings_words.proofs.ReadBack.{read_back}
 
--- words start with `start` where they are `start` and a rest
-starts : (start rest : List ℕ) → starts_with (start ++ rest) start ≡ true
-starts [] rest = refl
-starts (x ∷ start) rest = rw (eq-eqb x x refl, starts start rest)
-
-start_is : (ws start : List ℕ) → starts_with ws start ≡ true → ws ≡ start ++ drop (length start) ws
-start_is ws [] h = refl
-start_is [] (x ∷ start) h = absurd (subst T (sym h) tt)
-start_is (w ∷ ws) (x ∷ start) h =
-    let t = both (eqb w x) (starts_with ws start) h in
-    cc (eqb-true w x t.0, start_is ws start t.1)
+-- whether words start with `start`
+starts : (ws start : List ℕ) → (starts_with eqb ws start ≡ true → ws ≡ start ++ drop (length start) ws) × ((rest : List ℕ) → ws ≡ start ++ rest → starts_with eqb ws start ≡ true)
+starts ws start = starts_is Decides-eqb ws start (starts_with eqb ws start) refl
 
 -- the floats of any words fit
 fit : (w : ℕ) → FloatFits (float w)
@@ -55,10 +50,11 @@ floats_fit ws = record {
 pub sound : (ws : List ℕ) → picture ws ≡ true → (first_bad (settings_of ws) false ≡ 0) × (ws ≡ settings_words (settings_of ws) ++ drop 21 ws)
 unfolding picture
 sound ws h =
-    let t = both (eqb (first_bad (settings_of ws) false) 0) (starts_with ws (settings_words (settings_of ws))) h in
-    (eqb-true (first_bad (settings_of ws) false) 0 t.0, rw (words_length (settings_of ws)) at (start_is ws (settings_words (settings_of ws)) t.1))
+    let own = settings_words (settings_of ws) in
+    let t = both (eqb (first_bad (settings_of ws) false) 0) (starts_with eqb ws own) h in
+    (eqb-true (first_bad (settings_of ws) false) 0 t.0, rw (words_length (settings_of ws)) at ((starts ws own).0 t.1))
 
 -- complete: the words of settings that configuring passes are a picture, whatever comes after them
 pub complete : (s : Settings) (rest : List ℕ) → FloatsFit s → first_bad s false ≡ 0 → picture (settings_words s ++ rest) ≡ true
 unfolding picture
-complete s rest h e = rw (read_back s rest h, e, starts (settings_words s) rest)
+complete s rest h e = rw (read_back s rest h, e, (starts (settings_words s ++ rest) (settings_words s)).1 rest refl)

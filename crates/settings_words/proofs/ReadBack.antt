@@ -1,4 +1,5 @@
 -- What the words of settings stand for is these settings, so settings with the same words are the same. Assumes nothing.
+use Rattle.std.specs.Prelude.{None, Some}
 use Prim.Native.Nat.{ℕ}
 use mathlib.Core.Path.{◌≡◌, refl, sym, ap, ◌∙◌}
 use mathlib.Core.Bool.{Bool, true, false}
@@ -9,8 +10,7 @@ use lib.Ieee.Bits.{of_bits-to_bits}
 use Rattle.settings.specs.declared.Settings.{Settings}
 use Rattle.settings.specs.declared.Increase.{Increase}
 use Rattle.settings.specs.declared.Increase.TheVariants as increase
-use Rattle.settings.specs.declared.Cap.{Cap}
-use Rattle.settings.specs.declared.Cap.TheVariants as cap
+use Rattle.settings.specs.Types.{Cap}
 use Rattle.settings.specs.declared.Flash.{Flash}
 use Rattle.settings.specs.declared.Flash.TheVariants as flash
 use Rattle.settings.specs.declared.Decrease.{Decrease}
@@ -28,8 +28,8 @@ flag_back true = refl
 flag_back false = refl
 
 cap_back : (c : Cap) → cap_of (get_or (cap_words c) 0 0) (get_or (cap_words c) 1 0) ≡ c
-cap_back cap.None = refl
-cap_back (cap.Upto n) = refl
+cap_back None = refl
+cap_back (Some n) = refl
 
 increase_back : (i : Increase) → IncreaseFits i → increase_of (get_or (increase_words i) 0 0) (get_or (increase_words i) 1 0) (get_or (increase_words i) 2 0) ≡ i
 increase_back increase.Off h = refl

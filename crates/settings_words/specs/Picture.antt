@@ -1,12 +1,12 @@
 -- The settings that 21 words stand for, and which words are a picture of settings. Definitions only.
-use Rattle.std.specs.Prelude.{ℕ, Bool, true, false, ◌&&◌, cond, List, [], ◌∷◌, eqb, get_or, Float}
+use Rattle.std.specs.Prelude.{ℕ, Bool, false, ◌&&◌, cond, List, eqb, get_or, Float, None, Some}
+use Rattle.std.specs.List.{starts_with}
 use Rattle.std.specs.Float.{binary64}
 use Rattle.std.specs.Float.Ieee.{of_bits}
 use Rattle.settings.specs.declared.Settings.{Settings}
 use Rattle.settings.specs.declared.Increase.{Increase}
 use Rattle.settings.specs.declared.Increase.TheVariants as increase
-use Rattle.settings.specs.declared.Cap.{Cap}
-use Rattle.settings.specs.declared.Cap.TheVariants as cap
+use Rattle.settings.specs.Types.{Cap}
 use Rattle.settings.specs.declared.Flash.{Flash}
 use Rattle.settings.specs.declared.Flash.TheVariants as flash
 use Rattle.settings.specs.declared.Decrease.{Decrease}
@@ -20,7 +20,7 @@ abbrev pub float : ℕ → Float
 float w = of_bits binary64 w
 
 abbrev pub cap_of : ℕ → ℕ → Cap
-cap_of kind bytes = cond (eqb kind 0) cap.None (cap.Upto bytes)
+cap_of kind bytes = cond (eqb kind 0) None (Some bytes)
 
 abbrev pub increase_of : ℕ → ℕ → ℕ → Increase
 increase_of kind lower multiplier = cond (eqb kind 0) increase.Off (increase.Threshold (float lower) (float multiplier))
@@ -52,12 +52,6 @@ settings_of ws = record {
 
 -- ---- pictures
 
--- whether the first words of ws are those of start
-abbrev pub starts_with : List ℕ → List ℕ → Bool
-starts_with ws [] = true
-starts_with [] (x ∷ start) = false
-starts_with (w ∷ ws) (x ∷ start) = eqb w x && starts_with ws start
-
 -- configuring passes the settings, and the words start with the settings' own
 unfoldable pub picture : List ℕ → Bool
-picture ws = eqb (first_bad (settings_of ws) false) 0 && starts_with ws (settings_words (settings_of ws))
+picture ws = eqb (first_bad (settings_of ws) false) 0 && starts_with eqb ws (settings_words (settings_of ws))

@@ -1,12 +1,11 @@
 -- The 21 words of the settings. Definitions only.
-use Rattle.std.specs.Prelude.{ℕ, Bool, true, false, not, List, [], ◌∷◌, ◌++◌, eqb, Float}
+use Rattle.std.specs.Prelude.{ℕ, Bool, true, false, not, List, [], ◌∷◌, ◌++◌, eqb, Float, None, Some}
 use Rattle.std.specs.Float.{binary64}
 use Rattle.std.specs.Float.Ieee.{to_bits}
 use Rattle.settings.specs.declared.Settings.{Settings}
 use Rattle.settings.specs.declared.Increase.{Increase}
 use Rattle.settings.specs.declared.Increase.TheVariants as increase
-use Rattle.settings.specs.declared.Cap.{Cap}
-use Rattle.settings.specs.declared.Cap.TheVariants as cap
+use Rattle.settings.specs.Types.{Cap}
 use Rattle.settings.specs.declared.Flash.{Flash}
 use Rattle.settings.specs.declared.Flash.TheVariants as flash
 use Rattle.settings.specs.declared.Decrease.{Decrease}
@@ -24,8 +23,8 @@ flag_of w = not (eqb w 0)
 
 -- the kind and the bytes
 abbrev pub cap_words : Cap → List ℕ
-cap_words cap.None = 0 ∷ 0 ∷ []
-cap_words (cap.Upto bytes) = 1 ∷ bytes ∷ []
+cap_words None = 0 ∷ 0 ∷ []
+cap_words (Some bytes) = 1 ∷ bytes ∷ []
 
 -- the kind, the lower rate and the multiplier
 abbrev pub increase_words : Increase → List ℕ

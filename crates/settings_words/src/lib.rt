@@ -23,7 +23,6 @@ ghost use Rattle.settings_words.specs.FloatsFit.{FloatsFit};
 ghost use Rattle.settings_words.specs.Picture.{settings_of, picture};
 
 mod parts;
-mod runs;
 
 use fraction::{float_of, word_of};
 pub use parts::flag_word;
@@ -31,7 +30,6 @@ use parts::{
     cap_of, cap_words, decrease_of, decrease_words, flash_of, flash_words, increase_of,
     increase_words,
 };
-use runs::{copy_to_start, starts_with};
 use settings::{Settings, first_bad_field};
 
 // The words of s.
@@ -39,16 +37,11 @@ pub fn words_of(s: Settings) -> [u64; 21]
     ensures value { result ≡ settings_words s }
     ensures floats_fit { FloatsFit s }
 {
-    let increase = s.increase;
-    let i = increase_words(increase);
-    let increment = s.increment;
-    let ic = cap_words(increment);
-    let flash = s.flash;
-    let f = flash_words(flash);
-    let decrease = s.decrease;
-    let d = decrease_words(decrease);
-    let decrement = s.decrement;
-    let dc = cap_words(decrement);
+    let [increase, lower, multiplier] = increase_words(s.increase);
+    let [increment, increment_bytes] = cap_words(s.increment);
+    let [flash, multiple, threshold] = flash_words(s.flash);
+    let [decrease, upper, epochs, last] = decrease_words(s.decrease);
+    let [decrement, decrement_bytes] = cap_words(s.decrement);
     [
         flag_word(s.evictions),
         flag_word(s.preset),
@@ -57,58 +50,54 @@ pub fn words_of(s: Settings) -> [u64; 21]
         s.largest,
         s.smallest,
         s.epoch,
-        i[0],
-        i[1],
-        i[2],
-        ic[0],
-        ic[1],
-        f[0],
-        f[1],
-        f[2],
-        d[0],
-        d[1],
-        d[2],
-        d[3],
-        dc[0],
-        dc[1],
+        increase,
+        lower,
+        multiplier,
+        increment,
+        increment_bytes,
+        flash,
+        multiple,
+        threshold,
+        decrease,
+        upper,
+        epochs,
+        last,
+        decrement,
+        decrement_bytes,
     ]
 }
 
 // The settings of the first 21 words. Words that are no picture give settings with other words.
+#[tactic(auto, unfolding(crate::specs::Picture::settings_of))]
 pub fn settings_of(w: &[u64]) -> Settings
     requires { 21 ≤ length w.now }
     ensures { result ≡ settings_of w.now }
 {
-    let clean = float_of(w[3]);
-    let increase = increase_of(w[7], w[8], w[9]);
-    let increment = cap_of(w[10], w[11]);
-    let flash = flash_of(w[12], w[13], w[14]);
-    let decrease = decrease_of(w[15], w[16], w[17], w[18]);
-    let decrement = cap_of(w[19], w[20]);
     Settings {
         evictions: w[0] != 0,
         preset: w[1] != 0,
         initial: w[2],
-        clean: clean,
+        clean: float_of(w[3]),
         largest: w[4],
         smallest: w[5],
         epoch: w[6],
-        increase: increase,
-        increment: increment,
-        flash: flash,
-        decrease: decrease,
-        decrement: decrement,
+        increase: increase_of(w[7], w[8], w[9]),
+        increment: cap_of(w[10], w[11]),
+        flash: flash_of(w[12], w[13], w[14]),
+        decrease: decrease_of(w[15], w[16], w[17], w[18]),
+        decrement: cap_of(w[19], w[20]),
     }
 }
 
 // Whether the first 21 words are the words of settings that configuring passes.
+#[tactic(auto, unfolding(crate::specs::Picture::picture))]
 pub fn is_picture(w: &[u64]) -> bool
     requires { 21 ≤ length w.now }
     ensures { result ≡ picture w.now }
 {
     let s = settings_of(w);
     let own = words_of(s);
-    (first_bad_field(s, false) == 0) & starts_with(w, &own)
+    first_bad_field(s, false) == 0 && w.starts_with(&own)
 }
 
 // Writes the words of s over the first 21.
@@ -118,5 +107,5 @@ pub fn store(t: &mut [u64], s: Settings)
     ensures floats_fit { FloatsFit s }
 {
     let own = words_of(s);
-    copy_to_start(&own, t);
+    t[..own.len()].copy_from_slice(&own);
 }

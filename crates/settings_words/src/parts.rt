@@ -1,35 +1,38 @@
 // The words of a flag, of a cap and of each rule, and the cap or rule of its words. A kind that
 // stands for nothing is read as the last kind.
+//
+// A kind is a number here because a stored table holds it: specs/Words.antt fixes each number.
+// An impl of From for a rule would have to stand in crate `settings`, so these are functions.
 ghost use Rattle.std.specs.Prelude.{◌≡◌};
 ghost use Rattle.settings_words.specs.Words.{flag_word, cap_words, increase_words, flash_words, decrease_words};
 ghost use Rattle.settings_words.specs.Picture.{cap_of, increase_of, flash_of, decrease_of};
 ghost use Rattle.settings_words.specs.FloatsFit.{IncreaseFits, FlashFits, DecreaseFits};
 
 use fraction::{float_of, word_of};
-use settings::{Cap, Decrease, Flash, Increase};
+use settings::{Decrease, Flash, Increase};
 
 pub fn flag_word(b: bool) -> u64
     ensures { result ≡ flag_word b }
 {
-    if b { 1 } else { 0 }
+    u64::from(b)
 }
 
-pub fn cap_words(c: Cap) -> [u64; 2]
+pub fn cap_words(c: Option<u64>) -> [u64; 2]
     ensures { result ≡ cap_words c }
 {
     match c {
-        Cap::None => [0, 0],
-        Cap::Upto(bytes) => [1, bytes],
+        None => [0, 0],
+        Some(bytes) => [1, bytes],
     }
 }
 
-pub fn cap_of(kind: u64, bytes: u64) -> Cap
+pub fn cap_of(kind: u64, bytes: u64) -> Option<u64>
     ensures { result ≡ cap_of kind bytes }
 {
     if kind == 0 {
-        return Cap::None;
+        return None;
     }
-    Cap::Upto(bytes)
+    Some(bytes)
 }
 
 pub fn increase_words(i: Increase) -> [u64; 3]
@@ -45,12 +48,12 @@ pub fn increase_words(i: Increase) -> [u64; 3]
 pub fn increase_of(kind: u64, lower: u64, multiplier: u64) -> Increase
     ensures { result ≡ increase_of kind lower multiplier }
 {
-    if kind == 0 {
-        return Increase::Off;
-    }
-    Increase::Threshold {
-        lower: float_of(lower),
-        multiplier: float_of(multiplier),
+    match kind {
+        0 => Increase::Off,
+        _ => Increase::Threshold {
+            lower: float_of(lower),
+            multiplier: float_of(multiplier),
+        },
     }
 }
 
@@ -70,12 +73,12 @@ pub fn flash_words(f: Flash) -> [u64; 3]
 pub fn flash_of(kind: u64, multiple: u64, threshold: u64) -> Flash
     ensures { result ≡ flash_of kind multiple threshold }
 {
-    if kind == 0 {
-        return Flash::Off;
-    }
-    Flash::On {
-        multiple: float_of(multiple),
-        threshold: float_of(threshold),
+    match kind {
+        0 => Flash::Off,
+        _ => Flash::On {
+            multiple: float_of(multiple),
+            threshold: float_of(threshold),
+        },
     }
 }
 
@@ -99,24 +102,20 @@ pub fn decrease_words(d: Decrease) -> [u64; 4]
 pub fn decrease_of(kind: u64, upper: u64, epochs: u64, last: u64) -> Decrease
     ensures { result ≡ decrease_of kind upper epochs last }
 {
-    if kind == 0 {
-        return Decrease::Off;
-    }
-    if kind == 1 {
-        return Decrease::Threshold {
+    match kind {
+        0 => Decrease::Off,
+        1 => Decrease::Threshold {
             upper: float_of(upper),
             multiplier: float_of(last),
-        };
-    }
-    if kind == 2 {
-        return Decrease::AgeOut {
-            epochs: epochs,
+        },
+        2 => Decrease::AgeOut {
+            epochs,
             reserve: float_of(last),
-        };
-    }
-    Decrease::AgeOutWithThreshold {
-        upper: float_of(upper),
-        epochs: epochs,
-        reserve: float_of(last),
+        },
+        _ => Decrease::AgeOutWithThreshold {
+            upper: float_of(upper),
+            epochs,
+            reserve: float_of(last),
+        },
     }
 }

@@ -1,9 +1,7 @@
 -- What a piece of input leaves.
-use Rattle.std.specs.Prelude.{ℕ, ◌≤◌}
-use Rattle.shell.specs.declared.input.Rest.{Rest}
-use Rattle.shell.specs.declared.input.Rest.TheVariants as rest
+use Rattle.std.specs.Prelude.{ℕ, ◌≤◌, Option, Some, None}
 
--- An unfinished line lies within so many bytes.
-abbrev pub Within : Rest → ℕ → Type 0
-Within (rest.Unfinished place) n = place ≤ n
-Within rest.Over n = Unit {0}
+-- An unfinished line lies within so many bytes; where nothing is left the run is over.
+abbrev pub Within : Option ℕ → ℕ → Type 0
+Within (Some place) n = place ≤ n
+Within None n = Unit {0}

@@ -6,20 +6,11 @@ ghost use Rattle.shell.specs.Lines.{ran, ran_line};
 ghost use Rattle.shell.specs.Rest.{Within};
 
 use crate::{ask, print};
-use lines::Line;
+use lines::Insert;
 use rules::request::Request;
 use small_setup::{Orders, Table};
 use std::io;
 use std::io::Read;
-
-// What a piece of input leaves.
-#[derive(Clone, Copy)]
-pub enum Rest {
-    // An unfinished line: where it starts, or how long it is.
-    Unfinished(usize),
-    // Nothing: the run is over.
-    Over,
-}
 
 // Runs a line, and answers whether the run goes on. The line is done also where a write fails.
 fn run_line(rt: &impl Print, table: &mut Table, orders: &mut Orders, s: &[u8]) -> io::Result<bool>
@@ -27,58 +18,42 @@ fn run_line(rt: &impl Print, table: &mut Table, orders: &mut Orders, s: &[u8]) -
     ensures err_table { OnErr result (table.new ≡ (ran_line table.old orders.old (line_of s.now)).table) }
     ensures err_orders { OnErr result (orders.new ≡ (ran_line table.old orders.old (line_of s.now)).orders) }
 {
-    let line = lines::read_line(s);
-    match line {
-        Line::Bad => {
-            print::bad_line(rt)?;
-            Ok(false)
-        }
-        Line::Insert { address, size } => {
-            ask(rt, table, orders, Request::Insert { address, size })?;
-            Ok(true)
-        }
-    }
+    let Some(Insert { address, size }) = lines::read_line(s) else {
+        print::bad_line(rt)?;
+        return Ok(false);
+    };
+    ask(rt, table, orders, Request::Insert { address, size })?;
+    Ok(true)
 }
 
-// Runs the lines that end within a text, and answers where the unfinished one starts.
+// Runs the lines that end within a text, and answers where the unfinished one starts; nothing where the run is over. A line's end
+// says where the next starts, so this is no range.
 #[tactic(auto, using(lines::proofs::Laws::line_within))]
 fn run_lines(
     rt: &impl Print,
     table: &mut Table,
     orders: &mut Orders,
     text: &[u8],
-) -> io::Result<Rest>
+) -> io::Result<Option<usize>>
     ensures { IfOk result (λ rest. Within rest (length text.now)) }
 {
     let mut at: usize = 0;
     while at < text.len() {
         let end = lines::line_end(text, at);
         if end == text.len() {
-            return Ok(Rest::Unfinished(at));
+            return Ok(Some(at));
         }
         if !run_line(rt, table, orders, &text[at..end])? {
-            return Ok(Rest::Over);
+            return Ok(None);
         }
         at = end + 1;
     }
-    Ok(Rest::Unfinished(at))
+    Ok(Some(at))
 }
 
-// Moves the bytes between two places to the front.
-fn move_to_front(buf: &mut [u8], from: usize, to: usize)
-    requires from_le_to { from ≤ to }
-    requires to_in_bounds { to ≤ length buf.old }
-{
-    let mut i = from;
-    while i < to {
-        buf[i - from] = buf[i];
-        i += 1;
-    }
-}
-
-// Keeps the unfinished line, which lies between two places, at the front. One that fills the buffer
-// is bad.
-fn keep(rt: &impl Print, buf: &mut [u8], from: usize, to: usize) -> io::Result<Rest>
+// Keeps the unfinished line, which lies between two places, at the front, and answers how long it is.
+// One that fills the buffer is bad.
+fn keep(rt: &impl Print, buf: &mut [u8], from: usize, to: usize) -> io::Result<Option<usize>>
     requires from_le_to { from ≤ to }
     requires to_in_bounds { to ≤ length buf.old }
     ensures ok { IfOk result (λ rest. Within rest (length buf.new)) }
@@ -86,10 +61,10 @@ fn keep(rt: &impl Print, buf: &mut [u8], from: usize, to: usize) -> io::Result<R
 {
     if to - from == buf.len() {
         print::bad_line(rt)?;
-        return Ok(Rest::Over);
+        return Ok(None);
     }
-    move_to_front(buf, from, to);
-    Ok(Rest::Unfinished(to - from))
+    buf.copy_within(from..to, 0);
+    Ok(Some(to - from))
 }
 
 // Reads once behind the bytes that are kept, and answers how many there are now.
@@ -111,7 +86,7 @@ fn run_piece(
     orders: &mut Orders,
     buf: &mut [u8],
     kept: usize,
-) -> io::Result<Rest>
+) -> io::Result<Option<usize>>
     requires { kept ≤ length buf.old }
     ensures { IfOk result (λ rest. Within rest (length buf.new)) }
 {
@@ -120,17 +95,16 @@ fn run_piece(
         if 0 < n {
             run_line(rt, table, orders, &buf[..n])?;
         }
-        return Ok(Rest::Over);
+        return Ok(None);
     }
-    let rest = run_lines(rt, table, orders, &buf[..n])?;
-    match rest {
-        Rest::Over => Ok(Rest::Over),
-        Rest::Unfinished(at) => keep(rt, buf, at, n),
-    }
+    let Some(at) = run_lines(rt, table, orders, &buf[..n])? else {
+        return Ok(None);
+    };
+    keep(rt, buf, at, n)
 }
 
-// Runs the whole input. Nothing says that it ends, so the turns are counted down from a number that
-// no run uses up.
+// Runs the whole input. Nothing says that it ends, so the turns are counted up to a number that no
+// run uses up.
 pub fn run(
     rt: &(impl Input + Print),
     table: &mut Table,
@@ -139,18 +113,11 @@ pub fn run(
 ) -> io::Result<()> {
     let mut reader = rt.reader();
     let mut kept: usize = 0;
-    let mut turns = u64::MAX;
-    while 0 < turns {
-        let rest = run_piece(rt, &mut reader, table, orders, buf, kept)?;
-        match rest {
-            Rest::Over => {
-                return Ok(());
-            }
-            Rest::Unfinished(n) => {
-                kept = n;
-            }
-        }
-        turns -= 1;
+    for _turn in 0..u64::MAX {
+        let Some(n) = run_piece(rt, &mut reader, table, orders, buf, kept)? else {
+            return Ok(());
+        };
+        kept = n;
     }
     Ok(())
 }

@@ -13,10 +13,9 @@ mod input;
 pub mod print;
 
 use entries::default_threshold;
-use rules::answer::Answer;
 use rules::request::Request;
 use settings::Mode;
-use small_setup::{ORDER_WORDS, Orders, ROWS, TABLE_WORDS, Table, small};
+use small_setup::{ORDER_WORDS, ROWS, TABLE_WORDS, small};
 use std::io;
 
 // How many bytes of input are held.
@@ -25,15 +24,14 @@ const BUFFER_BYTES: usize = 65536;
 // Does a request that has no message, and prints what it gives. It is done also where a write fails.
 pub fn ask(
     rt: &impl Print,
-    table: &mut Table,
-    orders: &mut Orders,
+    table: &mut [u64],
+    orders: &mut [u64],
     request: Request,
 ) -> io::Result<()>
     ensures table_after { table.new ≡ (step_words table.old orders.old [] request).table }
     ensures orders_after { orders.new ≡ (step_words table.old orders.old [] request).orders }
 {
-    let none = [0u8; 0];
-    let answer = cache::step(table, orders, &none, request);
+    let answer = cache::step(table, orders, &[], request);
     print::answer(rt, orders, answer)
 }
 
@@ -44,7 +42,7 @@ pub fn serve(rt: &(impl Input + Print)) -> io::Result<()> {
     let mut bytes = [0u8; BUFFER_BYTES];
     let answer = cache::open(&mut table, ROWS, Mode::Alone, default_threshold(), small());
     match answer {
-        Answer::Accepted(_) => input::run(rt, &mut table, &mut orders, &mut bytes),
-        Answer::Refused(r) => print::refusal(rt, r),
+        Ok(_) => input::run(rt, &mut table, &mut orders, &mut bytes),
+        Err(r) => print::refusal(rt, r),
     }
 }

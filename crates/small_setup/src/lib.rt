@@ -5,7 +5,7 @@ ghost use Rattle.std.specs.Prelude.{◌≡◌};
 ghost use Rattle.rules.specs.Cases.{small, small_with};
 ghost use Rattle.settings.specs.declared.Flash.TheVariants as flash;
 
-use settings::{Cap, Decrease, Flash, Increase, Settings};
+use settings::{Decrease, Flash, Increase, Settings};
 
 pub const ROWS: u64 = 4;
 
@@ -32,10 +32,10 @@ pub fn small_with(increase: Increase, decrease: Decrease) -> Settings
         smallest: 1024,
         epoch: 100,
         increase,
-        increment: Cap::None,
+        increment: None,
         flash: Flash::Off,
         decrease,
-        decrement: Cap::None,
+        decrement: None,
     }
 }
 

@@ -1,17 +1,12 @@
 -- The seven functions over numbers: what each answers and leaves, on any input.
-use Rattle.std.specs.Prelude.{ℕ, List, leb, length, if◌then◌else◌}
-use Rattle.std.proofs.Math.Option.{Option, get_or}
+use Rattle.std.specs.Prelude.{ℕ, List, leb, length, if◌then◌else◌, Option, unwrap_or, None, Some, Err}
 use Rattle.settings.specs.declared.Settings.{Settings}
 use Rattle.rules.specs.Answers.{verdict_number}
 use Rattle.rules.specs.Cache.{fresh}
 use Rattle.rules.specs.Opening.{refusal_of_opening}
-use Rattle.rules.specs.declared.answer.Answer.{Answer}
-use Rattle.rules.specs.declared.answer.Answer.TheVariants.{Refused}
+use Rattle.rules.specs.Types.{Verdict}
 use Rattle.rules.specs.declared.answer.Refusal.{Refusal}
 use Rattle.rules.specs.declared.answer.Refusal.TheVariants as refusal
-use Rattle.rules.specs.declared.answer.Verdict.{Verdict}
-use Rattle.rules.specs.declared.answer.Verdict.TheVariants as verdict
-use Rattle.reason_rules.specs.declared.Change.TheVariants as change
 use Rattle.settings.specs.declared.Mode.{Mode}
 use Rattle.settings.specs.declared.Mode.TheVariants.{Alone}
 use Rattle.layout.specs.Layout.{layout_words}
@@ -33,8 +28,7 @@ use Rattle.numbers.specs.declared.raw.RawRequest.{RawRequest}
 use Rattle.numbers.specs.declared.raw.RawSettings.{RawSettings}
 use Rattle.numbers.specs.declared.raw.RawVerdict.{RawVerdict}
 use Rattle.numbers.specs.declared.raw.RawWritten.{RawWritten}
-use Rattle.numbers.specs.declared.request.Asked.{Asked}
-use Rattle.numbers.specs.declared.request.Asked.TheVariants.{Known, Unknown}
+use Rattle.numbers.specs.Types.{Asked}
 
 -- ---- opening
 
@@ -50,7 +44,7 @@ after_open a table = record { answer = a; table = table }
 unfoldable pub open_in : List ℕ → ℕ → Option Mode → ℕ → Settings → Opened
 open_in table rows mode threshold s =
     opened_with (refusal_of_opening rows (leb (layout_words rows) (length table)) mode threshold s) table rows
-    (fresh rows (get_or mode Alone) threshold s)
+    (fresh rows (unwrap_or mode Alone) threshold s)
 
 abbrev pub opened_numbers : Opened → AfterOpen
 opened_numbers x = after_open (answer_numbers x.answer) x.table
@@ -75,8 +69,8 @@ unknown_refusal table = if judge_words table then refusal.Mode else refusal.Tabl
 
 -- By `step_words` of crate cache; a request of no known kind changes no word.
 abbrev pub step_asked : List ℕ → List ℕ → List ℕ → Asked → Left
-step_asked table orders message Unknown = left (Refused (unknown_refusal table)) table orders
-step_asked table orders message (Known r) = step_words table orders message r
+step_asked table orders message None = left (Err (unknown_refusal table)) table orders
+step_asked table orders message (Some r) = step_words table orders message r
 
 abbrev pub left_numbers : Left → AfterStep
 left_numbers x = after_step (answer_numbers x.answer) x.table x.orders
@@ -98,9 +92,9 @@ after_explain a table orders reasons = record { answer = a; table = table; order
 
 -- By `explain_words` of crate explain; a request of no known kind changes no word, and no change is named.
 abbrev pub explain_asked : List ℕ → List ℕ → List ℕ → List ℕ → Asked → Explanation
-explain_asked table orders reasons message Unknown =
-    record { left = left (Refused (unknown_refusal table)) table orders; reasons = reasons; change = change.Same }
-explain_asked table orders reasons message (Known r) = explain_words table orders reasons message r
+explain_asked table orders reasons message None =
+    record { left = left (Err (unknown_refusal table)) table orders; reasons = reasons; change = None }
+explain_asked table orders reasons message (Some r) = explain_words table orders reasons message r
 
 abbrev pub explained_numbers : Explanation → AfterExplain
 explained_numbers x = after_explain (explanation_numbers x.left.answer x.change) x.left.table x.left.orders x.reasons
@@ -135,8 +129,8 @@ batch_numbers table orders requests answers = after_numbers (batch_words table o
 
 -- By `ask_words` of crate cache; a request of no known kind as a step answers it.
 abbrev pub ask_asked : List ℕ → ℕ → List ℕ → Asked → Verdict
-ask_asked table lent message Unknown = verdict.Refused (unknown_refusal table)
-ask_asked table lent message (Known r) = ask_words table lent message r
+ask_asked table lent message None = Err (unknown_refusal table)
+ask_asked table lent message (Some r) = ask_words table lent message r
 
 unfoldable pub ask_numbers : List ℕ → ℕ → List ℕ → RawRequest → RawVerdict
 ask_numbers table lent message w = verdict_numbers (ask_asked table lent message (asked_of_raw w))
@@ -145,7 +139,7 @@ ask_numbers table lent message w = verdict_numbers (ask_asked table lent message
 
 -- 0 and the figures, or 1 and zeros.
 unfoldable pub report_numbers : List ℕ → RawFigures
-report_numbers table = let x = report_words table in figure_numbers x.answer x.report
+report_numbers table = figure_numbers (report_words table)
 
 -- ---- writing a message
 

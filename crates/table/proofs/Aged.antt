@@ -1,8 +1,7 @@
 -- The pass that raises all idle counts: after i rows, those are older and the others as they were.
-use Rattle.std.specs.Prelude.{if◌then◌else◌}
+use Rattle.std.specs.Prelude.{if◌then◌else◌, None, Some}
 use Prim.Native.Nat.{ℕ, zero, suc, ◌+◌, ◌<◌, ◌≤◌, min}
 use mathlib.Core.List.{List, [], ◌∷◌}
-use mathlib.Core.Option.{none}
 use mathlib.Core.Path.{◌≡◌, refl, sym, ap, subst, ◌∙◌}
 use native.Mathlib.Nat.{le_of_suc-le-suc}
 use native.Mathlib.Numerals.{add-one}
@@ -11,8 +10,7 @@ use lib.Dec.{eqb}
 use lib.ListN.{length, get_or, set}
 use borrow.Author.Tests.{eq-eqb, ne_eqb}
 use Rattle.rules.specs.declared.entry.Entry.{Entry}
-use Rattle.rules.specs.declared.entry.Row.TheVariants.{Free, Used}
-use Rattle.rules.specs.declared.entry.Row.{Row}
+use Rattle.rules.specs.Types.{Row}
 use Rattle.rules.specs.Allowed.{Distinct, EntryAllowed}
 use Rattle.rules.specs.Cache.{Cache, with_rows}
 use Rattle.rules.specs.Entries.{with_idle}
@@ -34,8 +32,8 @@ use Rattle.table.specs.Told.{age_words}
 use Rattle.table.proofs.Changed.{steady_with, fit_of}
 
 abbrev older_row : Row → Row
-older_row Free = Free
-older_row (Used e) = Used (older e)
+older_row None = None
+older_row (Some e) = Some (older e)
 
 -- the first i rows older
 unfoldable pub aged_to : ℕ → List Row → List Row
@@ -50,20 +48,20 @@ length_aged (suc i) [] = refl
 length_aged (suc i) (x ∷ rows) = ap suc (length_aged i rows)
 
 -- row i is still as it was
-aged_row : (i : ℕ) (rows : List Row) → get_or (aged_to i rows) i Free ≡ get_or rows i Free
+aged_row : (i : ℕ) (rows : List Row) → get_or (aged_to i rows) i None ≡ get_or rows i None
 unfolding aged_to
 aged_row zero rows = refl
 aged_row (suc i) [] = refl
 aged_row (suc i) (x ∷ rows) = aged_row i rows
 
-aged_next : (i : ℕ) (rows : List Row) → i < length rows → set (aged_to i rows) i (older_row (get_or rows i Free)) ≡ aged_to (suc i) rows
+aged_next : (i : ℕ) (rows : List Row) → i < length rows → set (aged_to i rows) i (older_row (get_or rows i None)) ≡ aged_to (suc i) rows
 unfolding aged_to
 aged_next i [] h = absurd (omega arith)
 aged_next zero (x ∷ rows) h = refl
 aged_next (suc i) (x ∷ rows) h = ap (λ (r : List Row). older_row x ∷ r) (aged_next i rows (le_of_suc-le-suc h))
 
 -- a free row needs no change
-aged_free : (i : ℕ) (rows : List Row) → get_or rows i Free ≡ Free → aged_to (suc i) rows ≡ aged_to i rows
+aged_free : (i : ℕ) (rows : List Row) → get_or rows i None ≡ None → aged_to (suc i) rows ≡ aged_to i rows
 unfolding aged_to
 aged_free zero [] e = refl
 aged_free zero (x ∷ rows) e = rw e
@@ -75,23 +73,23 @@ unfolding aged_to amend_all
 aged_all zero [] h = refl
 aged_all zero (x ∷ rows) h = absurd (omega arith)
 aged_all (suc i) [] h = refl
-aged_all (suc i) (Free ∷ rows) h = ap (λ (r : List Row). Free ∷ r) (aged_all i rows (le_of_suc-le-suc h))
-aged_all (suc i) (Used e ∷ rows) h = ap (λ (r : List Row). Used (older e) ∷ r) (aged_all i rows (le_of_suc-le-suc h))
+aged_all (suc i) (None ∷ rows) h = ap (λ (r : List Row). None ∷ r) (aged_all i rows (le_of_suc-le-suc h))
+aged_all (suc i) (Some e ∷ rows) h = ap (λ (r : List Row). Some (older e) ∷ r) (aged_all i rows (le_of_suc-le-suc h))
 
 -- addresses stay distinct
-aged_none : (i b : ℕ) (rows : List Row) → get rows b ≡ none → get (aged_to i rows) b ≡ none
+aged_none : (i b : ℕ) (rows : List Row) → get rows b ≡ None → get (aged_to i rows) b ≡ None
 unfolding aged_to get
 aged_none zero b rows n = n
 aged_none (suc i) b [] n = n
-aged_none (suc i) b (Free ∷ rows) n = aged_none i b rows n
-aged_none (suc i) b (Used e ∷ rows) n = split (eqb e.address b) (λ p. let q = simp p at n in simp p (absurd (let z : ◌≡◌ {A = ℕ} 0 1 = cc in omega arith))) (λ p. simp p (aged_none i b rows (simp p at n)))
+aged_none (suc i) b (None ∷ rows) n = aged_none i b rows n
+aged_none (suc i) b (Some e ∷ rows) n = split (eqb e.address b) (λ p. let q = simp p at n in simp p (absurd (let z : ◌≡◌ {A = ℕ} 0 1 = cc in omega arith))) (λ p. simp p (aged_none i b rows (simp p at n)))
 
 aged_distinct : (i : ℕ) (rows : List Row) → Distinct rows → Distinct (aged_to i rows)
 unfolding aged_to
 aged_distinct zero rows d = d
 aged_distinct (suc i) [] d = d
-aged_distinct (suc i) (Free ∷ rows) d = aged_distinct i rows d
-aged_distinct (suc i) (Used e ∷ rows) d = (aged_none i e.address rows d.0, aged_distinct i rows d.1)
+aged_distinct (suc i) (None ∷ rows) d = aged_distinct i rows d
+aged_distinct (suc i) (Some e ∷ rows) d = (aged_none i e.address rows d.0, aged_distinct i rows d.1)
 
 module _ {ws : List ℕ} {c : Cache} {rest : List ℕ} (h : Holds ws c rest) where
   -- the words after i rows
@@ -104,7 +102,7 @@ module _ {ws : List ℕ} {c : Cache} {rest : List ℕ} (h : Holds ws c rest) whe
 
   age_next : (i : ℕ) → i < length c.rows → age_words i (aged_words i) ≡ aged_words (suc i)
   unfolding age_words
-  age_next i l = go (get_or c.rows i Free) refl
+  age_next i l = go (get_or c.rows i None) refl
     where
       d : Cache
       d = with_rows (aged_to i c.rows) c.recency c
@@ -112,15 +110,15 @@ module _ {ws : List ℕ} {c : Cache} {rest : List ℕ} (h : Holds ws c rest) whe
       low : i < length d.rows
       low = let k = length_aged i c.rows in omega arith
 
-      word : (k : ℕ) → k < 6 → get_or (encode d rest) (row_at i + k) 0 ≡ get_or (row_words (get_or c.rows i Free)) k 0
+      word : (k : ℕ) → k < 6 → get_or (encode d rest) (row_at i + k) 0 ≡ get_or (row_words (get_or c.rows i None)) k 0
       word k q = encode_word d rest i k low q ∙ ap (λ (x : Row). get_or (row_words x) k 0) (aged_row i c.rows)
 
-      go : (x : Row) → get_or c.rows i Free ≡ x
+      go : (x : Row) → get_or c.rows i None ≡ x
           → (if eqb (get_or (encode d rest) (row_at i + 1) 0) 0 then encode d rest else set (encode d rest) (row_at i + 3) (min (get_or (encode d rest) (row_at i + 3) 0 + 1) most_idle)) ≡ aged_words (suc i)
-      go Free e =
+      go None e =
           rw (eq-eqb _ 0 (word 1 (omega arith) ∙ ap (λ (x : Row). get_or (row_words x) 1 0) e))
           (ap (λ (rows : List Row). encode (with_rows rows c.recency c) rest) (sym (aged_free i c.rows e)))
-      go (Used x) e =
+      go (Some x) e =
           let ok : EntryAllowed x = subst RowAllowed e (row_allowed h i) in
           let size = word 1 (omega arith) ∙ ap (λ (y : Row). get_or (row_words y) 1 0) e in
           let idle = word 3 (omega arith) ∙ ap (λ (y : Row). get_or (row_words y) 3 0) e in

@@ -1,14 +1,14 @@
 -- An entry changed in its row, as a request changes it: what setting or touching it asks, and what either leaves.
 use Prim.Native.Nat.{ℕ}
 use mathlib.Core.List.{List}
-use mathlib.Core.Option.{some}
+use Rattle.std.specs.Prelude.{Some}
 use mathlib.Core.Path.{◌≡◌, sym, ap, ap₂, subst, ◌∙◌}
 use Rattle.rules.specs.Allowed.{EntryAllowed}
 use Rattle.rules.specs.Cache.{Cache, with_rows, amend_at, touch}
 use Rattle.rules.specs.Entries.{is_listed}
 use Rattle.rules.specs.Rows.{get, passes}
 use Rattle.rules.specs.declared.entry.Entry.{Entry}
-use Rattle.rules.specs.declared.entry.Row.{Row}
+use Rattle.rules.specs.Types.{Row}
 use Rattle.layout.specs.Holds.{Holds}
 use Rattle.layout.specs.Picture.{cache_in}
 use Rattle.table.specs.Asked.{GoodRows, RowOf}
@@ -22,7 +22,7 @@ pub record Keeps (f : Entry → Entry) (e : Entry) : Type 0 where
   pub allowed : EntryAllowed e → EntryAllowed (f e)
 
 module _ (f : Entry → Entry) {a : ℕ} {e x : Entry} (k : Keeps f e) (p : x ≡ f e) where
-  module _ {ws : List ℕ} {rows row : ℕ} (h : GoodRows ws rows) (r : RowOf (cache_in ws).rows a row) (g : get (cache_in ws).rows a ≡ some e) where
+  module _ {ws : List ℕ} {rows row : ℕ} (h : GoodRows ws rows) (r : RowOf (cache_in ws).rows a row) (g : get (cache_in ws).rows a ≡ Some e) where
     same : x.address ≡ a
     same = ap (λ (y : Entry). y.address) p ∙ k.address e ∙ told_address (cache_in ws).rows a e g
 

@@ -1,4 +1,5 @@
 -- An entry comes: into the lowest free row and to its place among the addresses, then to the head if it is listed.
+use Rattle.std.specs.Prelude.{Some}
 use Prim.Native.Nat.{ℕ, ◌<◌}
 use mathlib.Core.List.{List}
 use mathlib.Core.Path.{◌≡◌, sym, ap, ◌∙◌}
@@ -6,7 +7,6 @@ use native.Mathlib.Omega.{arith}
 use lib.ListN.{length}
 use borrow.Author.Tests.{ltb-true}
 use Rattle.rules.specs.declared.entry.Entry.{Entry}
-use Rattle.rules.specs.declared.entry.Row.TheVariants.{Used}
 use Rattle.rules.specs.Cache.{Cache, with_rows}
 use Rattle.rules.specs.Entries.{is_listed}
 use Rattle.rules.specs.Rows.{passes, place}
@@ -37,10 +37,10 @@ module _ {ws : List ℕ} {c : Cache} {rest : List ℕ} (h : Holds ws c rest) (e 
   pub head_fits : length c.recency < length c.rows
   head_fits = let u = listed_used c h.steady.sound in let r = room in omega arith
 
-  pub place_words : run_put (addresses_at (length c.rows)) (length c.rows) (place_of e.address (addresses c.rows)) (lowest_free c.rows) (put_row (lowest_free c.rows) (Used e) ws)
+  pub place_words : run_put (addresses_at (length c.rows)) (length c.rows) (place_of e.address (addresses c.rows)) (lowest_free c.rows) (put_row (lowest_free c.rows) (Some e) ws)
       ≡ encode (with_rows (place e c.rows) c.recency c) rest
   place_words =
-      ap (λ (x : List ℕ). run_put (addresses_at (length c.rows)) (length c.rows) (place_of e.address (addresses c.rows)) (lowest_free c.rows) (put_row (lowest_free c.rows) (Used e) x)) h.words
+      ap (λ (x : List ℕ). run_put (addresses_at (length c.rows)) (length c.rows) (place_of e.address (addresses c.rows)) (lowest_free c.rows) (put_row (lowest_free c.rows) (Some e) x)) h.words
       ∙ place_encode c rest e h.steady.sound.distinct ok.free ok.absent (h.steady.sound.listed e.address ∙ ap (passes is_listed) ok.absent) h.listed room
 
   pub add_holds : (n : ℕ) → n ≡ length c.recency

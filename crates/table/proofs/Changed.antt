@@ -1,17 +1,15 @@
 -- What each change leaves of a table that holds a cache: the words of the changed cache, which is steady again.
-use Rattle.std.specs.Prelude.{if◌then◌else◌}
+use Rattle.std.specs.Prelude.{if◌then◌else◌, Option, None, Some}
 use Prim.Native.Nat.{ℕ, ◌+◌, ◌<◌}
 use mathlib.Core.Bool.{Bool, true, false, false≢true}
 use mathlib.Core.List.{List, [], ◌∷◌, ◌++◌, append-nil}
-use mathlib.Core.Option.{Option, none, some}
 use mathlib.Core.Path.{◌≡◌, refl, sym, ap, ap₂, ◌∙◌}
 use native.Mathlib.Omega.{arith}
 use lib.Dec.{eqb}
 use lib.ListN.{length, get_or}
 use borrow.Author.Tests.{eqb-true, eq-eqb}
 use Rattle.rules.specs.declared.entry.Entry.{Entry}
-use Rattle.rules.specs.declared.entry.Row.TheVariants.{Free, Used}
-use Rattle.rules.specs.declared.entry.Row.{Row}
+use Rattle.rules.specs.Types.{Row}
 use Rattle.rules.specs.Addresses.{elem, strike, twice}
 use Rattle.rules.specs.Allowed.{EntryAllowed, Sound}
 use Rattle.rules.specs.Cache.{Cache, with_rows, amend_at, touch}
@@ -79,14 +77,14 @@ module _ {ws : List ℕ} {c : Cache} {rest : List ℕ} (h : Holds ws c rest) whe
 
     -- the entry goes
     pub drop_holds : (place row : ℕ) → PlaceIn (addresses c.rows) a place → row ≡ row_number c.rows a
-        → Holds (put_row row Free (run_cut (addresses_at (length c.rows)) (length c.rows) place (run_cut (recency_at (length c.rows)) (length c.rows) pos ws))) (dropped a c) rest
+        → Holds (put_row row None (run_cut (addresses_at (length c.rows)) (length c.rows) place (run_cut (recency_at (length c.rows)) (length c.rows) pos ws))) (dropped a c) rest
     drop_holds place row q r =
         let s = h.steady in
         let g = present is_listed (get c.rows a) (sym (s.sound.listed a) ∙ ap (λ (x : ℕ). elem x c.recency) (sym p.same) ∙ elem_at pos c.recency p.low) in
         let k = off_length in
         let l = h.listed in
         holds
-        (ap₂ (λ (i : ℕ) (x : List ℕ). put_row i Free (run_cut (addresses_at (length c.rows)) (length c.rows) place x)) r off_words
+        (ap₂ (λ (i : ℕ) (x : List ℕ). put_row i None (run_cut (addresses_at (length c.rows)) (length c.rows) place x)) r off_words
         ∙ remove_encode (unlisted a c) rest a g.0 s.sound.distinct g.1 (elem_strike a a c.recency ∙ rw (eq-eqb a a refl)) (omega arith) place q.low q.same)
         (steady_with c (remove a c.rows) (strike a c.recency) s (length_remove a c.rows) (fit_remove a c.rows (fit_of c s)) (sound_remove a c s.sound))
 
@@ -120,22 +118,22 @@ module _ {ws : List ℕ} {c : Cache} {rest : List ℕ} (h : Holds ws c rest) whe
     become_fit = fit_amend e.address (become e) (λ x. refl) c.rows (λ x g. become_allowed x) (fit_of c h.steady)
 
     -- the entry's words in its row, whatever the list is
-    become_encode : (l : List ℕ) → put_row (row_number c.rows e.address) (Used e) (encode (with_rows c.rows l c) rest) ≡ encode (amend_at e.address (become e) (with_rows c.rows l c)) rest
+    become_encode : (l : List ℕ) → put_row (row_number c.rows e.address) (Some e) (encode (with_rows c.rows l c) rest) ≡ encode (amend_at e.address (become e) (with_rows c.rows l c)) rest
     become_encode l =
         let p = present (λ x. true) (get c.rows e.address) here in
         let b = (stands c.rows e.address p.0 p.1).address in
         let same : e ≡ become e p.0 = λ i. record { address = sym b i; size = e.size; dirty = e.dirty; idle = e.idle; pinned = e.pinned; hold = e.hold } in
-        ap (λ (x : Entry). put_row (row_number c.rows e.address) (Used x) (encode (with_rows c.rows l c) rest)) same
+        ap (λ (x : Entry). put_row (row_number c.rows e.address) (Some x) (encode (with_rows c.rows l c) rest)) same
         ∙ amend_encode (with_rows c.rows l c) rest e.address (become e) (λ x. refl) p.0 h.steady.sound.distinct p.1
 
     listed_as : (o : Option Entry) → passes (λ x. true) o ≡ true → passes (λ x. is_listed (become e x)) o ≡ is_listed e
-    listed_as none k = absurd (false≢true k)
-    listed_as (some x) k = refl
+    listed_as None k = absurd (false≢true k)
+    listed_as (Some x) k = refl
 
-    pub set_holds : is_listed e ≡ passes is_listed (get c.rows e.address) → Holds (put_row (row_number c.rows e.address) (Used e) ws) (amend_at e.address (become e) c) rest
+    pub set_holds : is_listed e ≡ passes is_listed (get c.rows e.address) → Holds (put_row (row_number c.rows e.address) (Some e) ws) (amend_at e.address (become e) c) rest
     set_holds stays =
         holds
-        (ap (put_row (row_number c.rows e.address) (Used e)) h.words ∙ become_encode c.recency)
+        (ap (put_row (row_number c.rows e.address) (Some e)) h.words ∙ become_encode c.recency)
         (steady_with c (amend e.address (become e) c.rows) c.recency h.steady (length_amend e.address (become e) c.rows) become_fit
         (sound_amend e.address (become e) (λ x. refl) c.recency c (same_list c.recency) (listed_as (get c.rows e.address) here ∙ stays) h.steady.sound))
 
@@ -157,7 +155,7 @@ module _ {ws : List ℕ} {c : Cache} {rest : List ℕ} (h : Holds ws c rest) whe
             (λ p. here_of is_listed (get c.rows b) (sym (h.steady.sound.listed b) ∙ sym (elem_strike e.address b c.recency ∙ simp p) ∙ simp p at m))
 
     pub touch_holds : (n : ℕ) → n ≡ length (strike e.address c.recency)
-        → Holds (put_on (is_listed e) (length c.rows) n (row_number c.rows e.address) (put_row (row_number c.rows e.address) (Used e) (encode (unlisted e.address c) rest))) (touch e.address (become e) c) rest
+        → Holds (put_on (is_listed e) (length c.rows) n (row_number c.rows e.address) (put_row (row_number c.rows e.address) (Some e) (encode (unlisted e.address c) rest))) (touch e.address (become e) c) rest
     touch_holds n q =
         let rows : List Row = amend e.address (become e) c.rows in
         let d : Cache = with_rows rows (strike e.address c.recency) c in

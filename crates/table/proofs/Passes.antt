@@ -1,5 +1,5 @@
 -- Passes over the rows and over the recency list: what is still to do from a place on, and what a row's words say.
-use Rattle.std.specs.Prelude.{if◌then◌else◌}
+use Rattle.std.specs.Prelude.{if◌then◌else◌, None, Some}
 use Prim.Native.Nat.{ℕ, suc, ◌+◌, ◌*◌, ◌<◌, ◌≤◌}
 use mathlib.Core.Bool.{Bool, true, false, not, ◌||◌}
 use mathlib.Core.List.{List, [], ◌∷◌}
@@ -15,8 +15,7 @@ use Rattle.settings_words.specs.Words.{flag_of}
 use Rattle.rules.specs.declared.entry.Entry.{Entry}
 use Rattle.rules.specs.declared.entry.Hold.TheVariants.{Unheld, Readers, Writer}
 use Rattle.rules.specs.declared.entry.Hold.{Hold}
-use Rattle.rules.specs.declared.entry.Row.TheVariants.{Free, Used}
-use Rattle.rules.specs.declared.entry.Row.{Row}
+use Rattle.rules.specs.Types.{Row}
 use Rattle.rules.specs.Addresses.{some_address}
 use Rattle.rules.specs.Allowed.{HoldAllowed}
 use Rattle.rules.specs.Entries.{is_held}
@@ -32,52 +31,52 @@ use Rattle.layout.proofs.ReadBack.{RowAllowed, RowsAllowed}
 
 -- what a row adds to a sum, and whether its entry passes a test
 abbrev pub row_figure : (Entry → ℕ) → Row → ℕ
-row_figure figure Free = 0
-row_figure figure (Used e) = figure e
+row_figure figure None = 0
+row_figure figure (Some e) = figure e
 
 abbrev pub row_test : (Entry → Bool) → Row → Bool
-row_test test Free = false
-row_test test (Used e) = test e
+row_test test None = false
+row_test test (Some e) = test e
 
 abbrev pub is_free : Row → Bool
-is_free Free = true
-is_free (Used e) = false
+is_free None = true
+is_free (Some e) = false
 
 module _ (rows : List Row) (i : ℕ) where
-  row_next : i < length rows → drop i rows ≡ get_or rows i Free ∷ drop (i + 1) rows
-  row_next h = drop-cons rows i Free h ∙ ap (λ (n : ℕ). get_or rows i Free ∷ drop n rows) (sym (add-one i))
+  row_next : i < length rows → drop i rows ≡ get_or rows i None ∷ drop (i + 1) rows
+  row_next h = drop-cons rows i None h ∙ ap (λ (n : ℕ). get_or rows i None ∷ drop n rows) (sym (add-one i))
 
-  pub total_next : (figure : Entry → ℕ) → i < length rows → total figure (drop i rows) ≡ row_figure figure (get_or rows i Free) + total figure (drop (i + 1) rows)
+  pub total_next : (figure : Entry → ℕ) → i < length rows → total figure (drop i rows) ≡ row_figure figure (get_or rows i None) + total figure (drop (i + 1) rows)
   unfolding total
-  total_next figure h = ap (total figure) (row_next h) ∙ go (get_or rows i Free)
+  total_next figure h = ap (total figure) (row_next h) ∙ go (get_or rows i None)
     where
       go : (x : Row) → total figure (x ∷ drop (i + 1) rows) ≡ row_figure figure x + total figure (drop (i + 1) rows)
-      go Free = omega arith
-      go (Used e) = refl
+      go None = omega arith
+      go (Some e) = refl
 
   pub total_end : (figure : Entry → ℕ) → length rows ≤ i → total figure (drop i rows) ≡ 0
   unfolding total
   total_end figure h = rw (drop_of_length-le rows h)
 
-  pub entry_next : (test : Entry → Bool) → i < length rows → some_entry test (drop i rows) ≡ row_test test (get_or rows i Free) || some_entry test (drop (i + 1) rows)
+  pub entry_next : (test : Entry → Bool) → i < length rows → some_entry test (drop i rows) ≡ row_test test (get_or rows i None) || some_entry test (drop (i + 1) rows)
   unfolding some_entry
-  entry_next test h = ap (some_entry test) (row_next h) ∙ go (get_or rows i Free)
+  entry_next test h = ap (some_entry test) (row_next h) ∙ go (get_or rows i None)
     where
       go : (x : Row) → some_entry test (x ∷ drop (i + 1) rows) ≡ row_test test x || some_entry test (drop (i + 1) rows)
-      go Free = refl
-      go (Used e) = refl
+      go None = refl
+      go (Some e) = refl
 
   pub entry_end : (test : Entry → Bool) → length rows ≤ i → some_entry test (drop i rows) ≡ false
   unfolding some_entry
   entry_end test h = rw (drop_of_length-le rows h)
 
-  pub lowest_next : i < length rows → lowest_free (drop i rows) ≡ (if is_free (get_or rows i Free) then 0 else suc (lowest_free (drop (i + 1) rows)))
+  pub lowest_next : i < length rows → lowest_free (drop i rows) ≡ (if is_free (get_or rows i None) then 0 else suc (lowest_free (drop (i + 1) rows)))
   unfolding lowest_free
-  lowest_next h = ap lowest_free (row_next h) ∙ go (get_or rows i Free)
+  lowest_next h = ap lowest_free (row_next h) ∙ go (get_or rows i None)
     where
       go : (x : Row) → lowest_free (x ∷ drop (i + 1) rows) ≡ (if is_free x then 0 else suc (lowest_free (drop (i + 1) rows)))
-      go Free = refl
-      go (Used e) = refl
+      go None = refl
+      go (Some e) = refl
 
   pub lowest_end : length rows ≤ i → lowest_free (drop i rows) ≡ 0
   unfolding lowest_free
@@ -87,8 +86,8 @@ module _ (rows : List Row) (i : ℕ) where
 pub total_most : (figure : Entry → ℕ) → ((e : Entry) → figure e ≤ e.size) → (rows : List Row) → RowsAllowed rows → total figure rows ≤ length rows * most_size
 unfolding total
 total_most figure small [] f = omega arith
-total_most figure small (Free ∷ rows) f = let ih = total_most figure small rows f.1 in omega arith
-total_most figure small (Used e ∷ rows) f =
+total_most figure small (None ∷ rows) f = let ih = total_most figure small rows f.1 in omega arith
+total_most figure small (Some e ∷ rows) f =
     let ih = total_most figure small rows f.1 in
     let k = f.0.size in
     omega (arith, small e)
@@ -96,8 +95,8 @@ total_most figure small (Used e ∷ rows) f =
 -- ---- what a row's words say
 
 pub size_word : (x : Row) → get_or (row_words x) 1 0 ≡ row_figure (λ e. e.size) x
-size_word Free = refl
-size_word (Used e) = refl
+size_word None = refl
+size_word (Some e) = refl
 
 -- the size, if the entry is dirty
 abbrev pub dirty_size : Entry → ℕ
@@ -111,8 +110,8 @@ dirty_small e = go e.dirty
     go false = omega arith
 
 pub dirty_word : (x : Row) → (if flag_of (get_or (row_words x) 2 0) then get_or (row_words x) 1 0 else 0) ≡ row_figure dirty_size x
-dirty_word Free = refl
-dirty_word (Used e) = rw (flag_back e.dirty)
+dirty_word None = refl
+dirty_word (Some e) = rw (flag_back e.dirty)
 
 hold_zero : (h : Hold) → HoldAllowed h → eqb (hold_word h) 0 ≡ not (is_held h)
 hold_zero Unheld k = refl
@@ -120,12 +119,12 @@ hold_zero (Readers n) k = ne_eqb n 0 (λ (q : n ≡ 0). omega arith)
 hold_zero Writer k = refl
 
 pub held_word : (x : Row) → RowAllowed x → eqb (get_or (row_words x) 5 0) 0 ≡ not (row_test (λ e. is_held e.hold) x)
-held_word Free k = refl
-held_word (Used e) k = hold_zero e.hold k.hold
+held_word None k = refl
+held_word (Some e) k = hold_zero e.hold k.hold
 
 pub free_word : (x : Row) → RowAllowed x → eqb (get_or (row_words x) 1 0) 0 ≡ is_free x
-free_word Free k = refl
-free_word (Used e) k = ne_eqb e.size 0 (λ (q : e.size ≡ 0). let l = k.nonempty in omega arith)
+free_word None k = refl
+free_word (Some e) k = ne_eqb e.size 0 (λ (q : e.size ≡ 0). let l = k.nonempty in omega arith)
 
 -- ---- over the recency list
 

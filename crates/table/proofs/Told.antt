@@ -1,16 +1,19 @@
 -- What a good table tells, in the code's own terms.
+use Rattle.std.proofs.lemmas.Option.{same_Some, none-some}
 use Prim.Native.Nat.{ℕ, suc, ◌+◌, ◌<◌, ◌≤◌}
+use Rattle.std.specs.List.{AllWithin, HoldsAt}
+use Rattle.std.specs.Option.{MatchOption, unwrap_or}
+use Rattle.std.proofs.Common.{Option, None, Some}
 use mathlib.Core.Bool.{Bool, true, false, false≢true}
 use mathlib.Core.List.{List, [], ◌∷◌}
-use mathlib.Core.Option.{none, some}
+use Rattle.std.specs.Prelude.{None, Some}
 use mathlib.Core.Path.{◌≡◌, refl, sym, ap, ◌∙◌}
 use native.Mathlib.Omega.{arith}
 use lib.Dec.{eqb}
-use lib.ListN.{length, get_or, drop, length-map}
+use lib.ListN.{length, get_or, take, drop, length-map, length-take, length-drop}
 use borrow.Author.Tests.{eqb-true}
 use Rattle.rules.specs.declared.entry.Entry.{Entry}
-use Rattle.rules.specs.declared.entry.Row.TheVariants.{Free}
-use Rattle.rules.specs.declared.entry.Row.{Row}
+use Rattle.rules.specs.Types.{Row}
 use Rattle.rules.specs.Addresses.{elem}
 use Rattle.rules.specs.Cache.{Cache}
 use Rattle.rules.specs.Entries.{is_listed}
@@ -23,11 +26,11 @@ use Rattle.layout.specs.Picture.{row_number, address_at, addresses, row_words, r
 use Rattle.layout.specs.Places.{place_of}
 use Rattle.layout.proofs.Held.{RunAt, run_recency, run_addresses, holds_cache, holds_good, holds_recency, holds_address, holds_word, holds_entry, recency_get, address_get}
 use Rattle.layout.proofs.Numbers.{stands, here_of, number_low, address_back, elem_addresses, rising_addresses}
-use Rattle.table.specs.declared.lookup.Found.TheVariants.{At, Nothing}
+use Rattle.table.specs.declared.lookup.Found.{Found}
 use Rattle.table.specs.Asked.{GoodRows, RunIn, RowOf, PlaceIn, DropAt}
 use Rattle.table.specs.Told.{found_in}
 use Rattle.table.proofs.Between.{place_elem}
-use Rattle.table.proofs.Lengths.{at_number}
+use Rattle.table.proofs.Lengths.{at_number, word_of}
 
 -- a table that holds a cache is good
 pub good_rows : {ws : List ℕ} {c : Cache} {rest : List ℕ} {rows : ℕ} → Holds ws c rest → rows ≡ length c.rows → GoodRows ws rows
@@ -59,7 +62,7 @@ module _ {ws : List ℕ} {rows : ℕ} (g : GoodRows ws rows) where
 
   -- ---- a row
 
-  pub row_word : (i k : ℕ) → i < rows → k < width → get_or ws (row_at i + k) 0 ≡ get_or (row_words (get_or (cache_in ws).rows i Free)) k 0
+  pub row_word : (i k : ℕ) → i < rows → k < width → get_or ws (row_at i + k) 0 ≡ get_or (row_words (get_or (cache_in ws).rows i None)) k 0
   row_word i k l q = let s = g.size in holds_word g.good i k (omega arith) q
 
   module _ {a row : ℕ} (r : RowOf (cache_in ws).rows a row) where
@@ -70,10 +73,10 @@ module _ {ws : List ℕ} {rows : ℕ} (g : GoodRows ws rows) where
     pub row_fits : row_at row + width ≤ length ws
     row_fits = let n = row_low in let s = g.size in let l = g.good.long in omega arith
 
-    pub read_get : get (cache_in ws).rows a ≡ some (entry_of ws row)
+    pub read_get : get (cache_in ws).rows a ≡ Some (entry_of ws row)
     read_get =
         let p = present (λ e. true) (get (cache_in ws).rows a) r.here in
-        p.1 ∙ ap some (sym (ap (entry_of ws) r.number ∙ holds_entry g.good a p.0 p.1))
+        p.1 ∙ ap Some (sym (ap (entry_of ws) r.number ∙ holds_entry g.good a p.0 p.1))
 
     pub read_address : (entry_of ws row).address ≡ a
     read_address = (stands (cache_in ws).rows a (entry_of ws row) read_get).address
@@ -100,7 +103,7 @@ drop_row {pos = pos} g d = record { number = d.number; here = rw d.listed.same a
 
 -- ---- what an entry that was read tells
 
-module _ (rows : List Row) (a : ℕ) (e : Entry) (r : get rows a ≡ some e) where
+module _ (rows : List Row) (a : ℕ) (e : Entry) (r : get rows a ≡ Some e) where
   pub told_size : e.size ≡ size_at rows a
   told_size = rw r
 
@@ -112,31 +115,32 @@ module _ (rows : List Row) (a : ℕ) (e : Entry) (r : get rows a ≡ some e) whe
 
 -- ---- what a find tells
 
-pub found_here : (rows : List Row) (a : ℕ) → is_here rows a ≡ true → found_in rows a ≡ At (place_of a (addresses rows)) (row_number rows a)
+pub found_here : (rows : List Row) (a : ℕ) → is_here rows a ≡ true → found_in rows a ≡ Some (record { place = place_of a (addresses rows); row = row_number rows a })
 unfolding found_in
 found_here rows a h = rw h
 
-pub found_none : (rows : List Row) (a : ℕ) → is_here rows a ≡ false → found_in rows a ≡ Nothing
+pub found_none : (rows : List Row) (a : ℕ) → is_here rows a ≡ false → found_in rows a ≡ None
 unfolding found_in
 found_none rows a h = rw h
 
 -- an address that was found has a row, and stands at its place
-pub found_at : (rows : List Row) (a x y : ℕ) → found_in rows a ≡ At x y → RowOf rows a y × (x ≡ place_of a (addresses rows))
-found_at rows a x y e =
+pub found_at : (rows : List Row) (a : ℕ) (f : Found) → found_in rows a ≡ Some f → RowOf rows a f.row × (f.place ≡ place_of a (addresses rows))
+found_at rows a f e =
     split (is_here rows a)
-    (λ h. let q = found_here rows a h in (record { number = cc; here = h }, cc))
-    (λ h. let q = found_none rows a h in absurd (let z : ◌≡◌ {A = ℕ} 0 1 = cc in omega arith))
+    (λ h. let p = same_Some _ f (sym (found_here rows a h) ∙ e) in
+    (record { number = ap (λ (g : Found). g.row) (sym p); here = h }, ap (λ (g : Found). g.place) (sym p)))
+    (λ h. absurd (none-some f (sym (found_none rows a h) ∙ e)))
 
-pub found_place : {ws : List ℕ} {rows : ℕ} → GoodRows ws rows → (a x y : ℕ) → found_in (cache_in ws).rows a ≡ At x y → PlaceIn (addresses (cache_in ws).rows) a x
-found_place {ws} g a x y e = let f = found_at (cache_in ws).rows a x y e in rw f.1 (place_key g a f.0.here)
+pub found_place : {ws : List ℕ} {rows : ℕ} → GoodRows ws rows → (a : ℕ) (f : Found) → found_in (cache_in ws).rows a ≡ Some f → PlaceIn (addresses (cache_in ws).rows) a f.place
+found_place {ws} g a f e = let h = found_at (cache_in ws).rows a f e in rw h.1 (place_key g a h.0.here)
 
-pub found_absent : (rows : List Row) (a : ℕ) → found_in rows a ≡ Nothing → is_here rows a ≡ false
+pub found_absent : (rows : List Row) (a : ℕ) → found_in rows a ≡ None → is_here rows a ≡ false
 found_absent rows a e =
     split (is_here rows a)
-    (λ h. let q = found_here rows a h in absurd (let z : ◌≡◌ {A = ℕ} 0 1 = cc in omega arith))
+    (λ h. absurd (none-some _ (sym e ∙ found_here rows a h)))
     (λ h. h)
 
-pub found_no : (rows : List Row) (a : ℕ) → found_in rows a ≡ Nothing → get rows a ≡ none
+pub found_no : (rows : List Row) (a : ℕ) → found_in rows a ≡ None → get rows a ≡ None
 found_no rows a e = absent (get rows a) (found_absent rows a e)
 
 pub false_of : (t : Bool) → (t ≡ true → ⊥) → t ≡ false
@@ -174,3 +178,21 @@ module _ {ws : List ℕ} {rows a row : ℕ} (g : GoodRows ws rows) (r : RowOf (c
       let s = g.size in
       let i = p.1.low in
       none_is p.0 (omega arith) ((recency_number g p.0 i).number ∙ ap (row_number (cache_in ws).rows) p.1.same ∙ sym r.number)
+
+  -- the first word of the run that is the row's number stands at its place
+  pub place_first : {at k : ℕ} → at ≡ recency_at rows → k ≡ rows → elem a (cache_in ws).recency ≡ true → (o : Option ℕ)
+      → MatchOption o
+      (AllWithin (λ w. w ≡ row → ⊥) (take k (drop at ws)) 0 (length (take k (drop at ws))))
+      (λ i. (i < length (take k (drop at ws))) × HoldsAt (λ w. w ≡ row) (take k (drop at ws)) i × AllWithin (λ w. w ≡ row → ⊥) (take k (drop at ws)) 0 i)
+      → PlaceIn (cache_in ws).recency a (unwrap_or o rows)
+  place_first {at} {k} q e m None n =
+      let r : RunIn ws at rows = rw q (recency_run_same g) in
+      let f = r.fits in
+      let s = length-take k (drop at ws) in
+      let t = length-drop at ws in
+      absurd (place_missed m (λ i l w. n i 0 (omega arith) (omega arith) (word_of r e i 0 l ∙ ap (λ (p : ℕ). get_or ws (p + i) 0) q ∙ w)))
+  place_first {at} {k} q e m (Some i) h =
+      let r : RunIn ws at rows = rw q (recency_run_same g) in
+      let s = length-take k (drop at ws) in
+      let l : i < rows = let z = h.0 in omega arith in
+      place_hit i l (ap (λ (p : ℕ). get_or ws (p + i) 0) (sym q) ∙ sym (word_of r e i 0 l) ∙ h.1 0)

@@ -1,15 +1,13 @@
 -- An entry is written: it stays where it stands, or the tail goes to the head.
-use Rattle.std.specs.Prelude.{if◌then◌else◌}
+use Rattle.std.specs.Prelude.{if◌then◌else◌, Some}
 use Prim.Native.Nat.{ℕ, ◌+◌, ◌-◌, ◌<◌}
 use mathlib.Core.Bool.{Bool, true, false}
 use mathlib.Core.List.{List, [], ◌∷◌, ◌++◌}
-use mathlib.Core.Option.{some}
 use mathlib.Core.Path.{◌≡◌, refl, sym, ap, ap₂, ◌∙◌}
 use native.Mathlib.Omega.{arith}
 use lib.ListN.{length, get_or, set, drop, length-drop}
 use Rattle.rules.specs.declared.entry.Entry.{Entry}
-use Rattle.rules.specs.declared.entry.Row.TheVariants.{Used}
-use Rattle.rules.specs.declared.entry.Row.{Row}
+use Rattle.rules.specs.Types.{Row}
 use Rattle.rules.specs.Addresses.{strike, twice}
 use Rattle.rules.specs.Allowed.{Distinct}
 use Rattle.rules.specs.Cache.{Cache, with_rows, amend_at, touch}
@@ -33,23 +31,23 @@ use Rattle.table.specs.Told.{become, turned}
 use Rattle.table.proofs.Changed.{steady_with, fit_of}
 
 -- an entry changed by two functions that agree on it
-pub amend_as : (f g : Entry → Entry) (rows : List Row) (a : ℕ) (e : Entry) → Distinct rows → get rows a ≡ some e → f e ≡ g e → amend a f rows ≡ amend a g rows
+pub amend_as : (f g : Entry → Entry) (rows : List Row) (a : ℕ) (e : Entry) → Distinct rows → get rows a ≡ Some e → f e ≡ g e → amend a f rows ≡ amend a g rows
 amend_as f g rows a e d r q =
     let s = stands rows a e r in
     ap (λ (x : ℕ). amend x f rows) (sym s.address)
     ∙ amend_row f rows (row_number rows a) e d s.row
-    ∙ ap (λ (x : Entry). set rows (row_number rows a) (Used x)) q
+    ∙ ap (λ (x : Entry). set rows (row_number rows a) (Some x)) q
     ∙ sym (amend_row g rows (row_number rows a) e d s.row)
     ∙ ap (λ (x : ℕ). amend x g rows) s.address
 
 -- taking the particulars of the changed entry is the change
-pub become_as : (f : Entry → Entry) → ((e : Entry) → (f e).address ≡ e.address) → (rows : List Row) (a : ℕ) (e : Entry) → Distinct rows → get rows a ≡ some e
+pub become_as : (f : Entry → Entry) → ((e : Entry) → (f e).address ≡ e.address) → (rows : List Row) (a : ℕ) (e : Entry) → Distinct rows → get rows a ≡ Some e
     → amend a (become (f e)) rows ≡ amend a f rows
 become_as f keeps rows a e d r =
     amend_as (become (f e)) f rows a e d r (λ i. record { address = sym (keeps e) i; size = (f e).size; dirty = (f e).dirty; idle = (f e).idle; pinned = (f e).pinned; hold = (f e).hold })
 
 -- the same where the list changes too
-pub touch_as : (f : Entry → Entry) → ((e : Entry) → (f e).address ≡ e.address) → (c : Cache) (a : ℕ) (e : Entry) → Distinct c.rows → get c.rows a ≡ some e
+pub touch_as : (f : Entry → Entry) → ((e : Entry) → (f e).address ≡ e.address) → (c : Cache) (a : ℕ) (e : Entry) → Distinct c.rows → get c.rows a ≡ Some e
     → touch a (become (f e)) c ≡ touch a f c
 touch_as f keeps c a e d r =
     let listed : passes (λ x. is_listed (become (f e) x)) (get c.rows a) ≡ passes (λ x. is_listed (f x)) (get c.rows a) = rw r in
@@ -79,8 +77,8 @@ clean_holds {ws} {c} {rest} a h here =
     (sound_write a c.recency c (same_list c.recency) h.steady.sound))
 
 module _ {ws : List ℕ} {c : Cache} {rest : List ℕ} (h : Holds ws c rest) (some-listed : 0 < length c.recency) where
-  pub turn_holds : (e : Entry) (n : ℕ) → get c.rows (get_or c.recency 0 0) ≡ some e → n ≡ length c.recency
-      → Holds (set (run_cut (recency_at (length c.rows)) n 0 (put_row (row_number c.rows (get_or c.recency 0 0)) (Used (cleaned e)) ws)) (recency_at (length c.rows) + (n - 1)) (row_number c.rows (get_or c.recency 0 0)))
+  pub turn_holds : (e : Entry) (n : ℕ) → get c.rows (get_or c.recency 0 0) ≡ Some e → n ≡ length c.recency
+      → Holds (set (run_cut (recency_at (length c.rows)) n 0 (put_row (row_number c.rows (get_or c.recency 0 0)) (Some (cleaned e)) ws)) (recency_at (length c.rows) + (n - 1)) (row_number c.rows (get_or c.recency 0 0)))
       (turned c) rest
   turn_holds e n g q =
       let a = get_or c.recency 0 0 in
@@ -95,7 +93,7 @@ module _ {ws : List ℕ} {c : Cache} {rest : List ℕ} (h : Holds ws c rest) (so
       let once = h.steady.sound.once in
       let m : n - 1 ≡ length (drop 1 c.recency) = omega arith in
       holds
-      (ap (λ (x : List ℕ). set (run_cut (recency_at k) n 0 (put_row r (Used (cleaned e)) x)) (recency_at k + (n - 1)) r) h.words
+      (ap (λ (x : List ℕ). set (run_cut (recency_at k) n 0 (put_row r (Some (cleaned e)) x)) (recency_at k + (n - 1)) r) h.words
       ∙ ap (λ (x : List ℕ). set (run_cut (recency_at k) n 0 x) (recency_at k + (n - 1)) r) (amend_encode c rest a cleaned (λ x. refl) e h.steady.sound.distinct g)
       ∙ ap₂ (λ (i j : ℕ). set (run_cut (recency_at i) j 0 (encode d rest)) (recency_at k + (n - 1)) r) (sym la) q
       ∙ ap (λ (x : List ℕ). set x (recency_at k + (n - 1)) r) (shorter_recency d rest 0 (omega arith) some-listed ∙ off_encode d rest 0 (omega arith) once some-listed ∙ ap (λ (l : List ℕ). encode (with_rows rows l c) rest) (tail_cut c.recency once some-listed))

@@ -1,9 +1,8 @@
 -- One turn of each pass over a good table, in the code's own terms.
-use Rattle.std.specs.Prelude.{if◌then◌else◌}
+use Rattle.std.specs.Prelude.{if◌then◌else◌, Option, None, Some}
 use Prim.Native.Nat.{ℕ, suc, ◌+◌, ◌*◌, ◌<◌, ◌≤◌}
 use mathlib.Core.Bool.{true, false, not}
 use mathlib.Core.List.{List}
-use mathlib.Core.Option.{Option, none, some}
 use mathlib.Core.Path.{◌≡◌, refl, sym, ap, ap₂, ◌∙◌}
 use native.Mathlib.Omega.{arith}
 use lib.Dec.{eqb}
@@ -11,7 +10,6 @@ use lib.ListN.{length, get_or, drop}
 use borrow.Author.Tests.{eq-eqb, ne_eqb, not-true, not-false}
 use Rattle.settings_words.specs.Words.{flag_of}
 use Rattle.rules.specs.declared.entry.Entry.{Entry}
-use Rattle.rules.specs.declared.entry.Row.TheVariants.{Free}
 use Rattle.rules.specs.Addresses.{some_address}
 use Rattle.rules.specs.Entries.{is_held, is_clean}
 use Rattle.rules.specs.Limits.{most_size, most_rows}
@@ -39,32 +37,38 @@ module _ {ws : List ℕ} {rows : ℕ} (g : GoodRows ws rows) where
     pub held_turn : held_bytes (drop i (cache_in ws).rows) ≡ get_or ws (row_at i + 1) 0 + held_bytes (drop (i + 1) (cache_in ws).rows)
     held_turn =
         total_next (cache_in ws).rows i (λ e. e.size) within
-        ∙ ap (λ (n : ℕ). n + held_bytes (drop (i + 1) (cache_in ws).rows)) (sym (row_word g i 1 l (omega arith) ∙ size_word (get_or (cache_in ws).rows i Free)))
+        ∙ ap (λ (n : ℕ). n + held_bytes (drop (i + 1) (cache_in ws).rows)) (sym (row_word g i 1 l (omega arith) ∙ size_word (get_or (cache_in ws).rows i None)))
 
-    pub dirty_turn_taken : total dirty_size (drop i (cache_in ws).rows)
+    dirty_turn_taken : total dirty_size (drop i (cache_in ws).rows)
         ≡ (if flag_of (get_or ws (row_at i + 2) 0) then get_or ws (row_at i + 1) 0 else 0) + total dirty_size (drop (i + 1) (cache_in ws).rows)
     dirty_turn_taken =
         total_next (cache_in ws).rows i dirty_size within
         ∙ ap (λ (n : ℕ). n + total dirty_size (drop (i + 1) (cache_in ws).rows))
-        (sym (ap₂ (λ (d n : ℕ). if flag_of d then n else 0) (row_word g i 2 l (omega arith)) (row_word g i 1 l (omega arith)) ∙ dirty_word (get_or (cache_in ws).rows i Free)))
+        (sym (ap₂ (λ (d n : ℕ). if flag_of d then n else 0) (row_word g i 2 l (omega arith)) (row_word g i 1 l (omega arith)) ∙ dirty_word (get_or (cache_in ws).rows i None)))
+
+    pub dirty_add : (get_or ws (row_at i + 2) 0 ≡ 0 → ⊥) → total dirty_size (drop i (cache_in ws).rows) ≡ get_or ws (row_at i + 1) 0 + total dirty_size (drop (i + 1) (cache_in ws).rows)
+    dirty_add q = rw (ne_eqb _ 0 q) at dirty_turn_taken
+
+    pub dirty_on : get_or ws (row_at i + 2) 0 ≡ 0 → total dirty_size (drop i (cache_in ws).rows) ≡ total dirty_size (drop (i + 1) (cache_in ws).rows)
+    dirty_on q = let t = rw (eq-eqb _ 0 q) at dirty_turn_taken in omega arith
 
     -- ---- searches over the rows
 
-    held_test : eqb (get_or ws (row_at i + 5) 0) 0 ≡ not (row_test (λ e. is_held e.hold) (get_or (cache_in ws).rows i Free))
-    held_test = ap (λ (w : ℕ). eqb w 0) (row_word g i 5 l (omega arith)) ∙ held_word (get_or (cache_in ws).rows i Free) (row_allowed g.good i)
+    held_test : eqb (get_or ws (row_at i + 5) 0) 0 ≡ not (row_test (λ e. is_held e.hold) (get_or (cache_in ws).rows i None))
+    held_test = ap (λ (w : ℕ). eqb w 0) (row_word g i 5 l (omega arith)) ∙ held_word (get_or (cache_in ws).rows i None) (row_allowed g.good i)
 
     pub held_stop : (get_or ws (row_at i + 5) 0 ≡ 0 → ⊥) → some_entry (λ e. is_held e.hold) (drop i (cache_in ws).rows) ≡ true
     held_stop q =
         entry_next (cache_in ws).rows i (λ e. is_held e.hold) within
-        ∙ rw (not-false (row_test (λ e. is_held e.hold) (get_or (cache_in ws).rows i Free)) (sym held_test ∙ ne_eqb _ 0 q))
+        ∙ rw (not-false (row_test (λ e. is_held e.hold) (get_or (cache_in ws).rows i None)) (sym held_test ∙ ne_eqb _ 0 q))
 
     pub held_on : get_or ws (row_at i + 5) 0 ≡ 0 → some_entry (λ e. is_held e.hold) (drop i (cache_in ws).rows) ≡ some_entry (λ e. is_held e.hold) (drop (i + 1) (cache_in ws).rows)
     held_on q =
         entry_next (cache_in ws).rows i (λ e. is_held e.hold) within
-        ∙ rw (not-true (row_test (λ e. is_held e.hold) (get_or (cache_in ws).rows i Free)) (sym held_test ∙ eq-eqb _ 0 q))
+        ∙ rw (not-true (row_test (λ e. is_held e.hold) (get_or (cache_in ws).rows i None)) (sym held_test ∙ eq-eqb _ 0 q))
 
-    free_test : eqb (get_or ws (row_at i + 1) 0) 0 ≡ is_free (get_or (cache_in ws).rows i Free)
-    free_test = ap (λ (w : ℕ). eqb w 0) (row_word g i 1 l (omega arith)) ∙ free_word (get_or (cache_in ws).rows i Free) (row_allowed g.good i)
+    free_test : eqb (get_or ws (row_at i + 1) 0) 0 ≡ is_free (get_or (cache_in ws).rows i None)
+    free_test = ap (λ (w : ℕ). eqb w 0) (row_word g i 1 l (omega arith)) ∙ free_word (get_or (cache_in ws).rows i None) (row_allowed g.good i)
 
     pub free_stop : get_or ws (row_at i + 1) 0 ≡ 0 → lowest_free (drop i (cache_in ws).rows) ≡ 0
     free_stop q = lowest_next (cache_in ws).rows i within ∙ rw (sym free_test ∙ eq-eqb _ 0 q)
@@ -87,5 +91,5 @@ module _ {ws : List ℕ} {rows : ℕ} (g : GoodRows ws rows) where
         ∙ rw (not_clean (get (cache_in ws).rows (get_or (cache_in ws).recency i 0)) q)
       where
         not_clean : (o : Option Entry) → passes (λ e. e.dirty) o ≡ true → passes is_clean o ≡ false
-        not_clean none k = refl
-        not_clean (some e) k = rw k
+        not_clean None k = refl
+        not_clean (Some e) k = rw k

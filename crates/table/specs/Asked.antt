@@ -1,10 +1,9 @@
 -- What the functions ask of a table and of what they are handed.
-use Rattle.std.specs.Prelude.{ℕ, ◌+◌, ◌<◌, ◌≤◌, true, false, List, ◌≡◌, length, get_or, take, drop}
-use Rattle.std.proofs.Math.Option.{none}
+use Rattle.std.specs.Prelude.{ℕ, ◌+◌, ◌<◌, ◌≤◌, true, false, List, ◌≡◌, length, get_or, take, drop, None}
 use Rattle.settings.specs.declared.Settings.{Settings}
 use Rattle.settings.specs.Validation.{first_bad}
 use Rattle.rules.specs.declared.entry.Entry.{Entry}
-use Rattle.rules.specs.declared.entry.Row.{Row}
+use Rattle.rules.specs.Types.{Row}
 use Rattle.rules.specs.Allowed.{EntryAllowed}
 use Rattle.rules.specs.Cache.{Cache}
 use Rattle.rules.specs.Rows.{get, has_free, is_here}
@@ -40,7 +39,7 @@ pub record DropAt (c : Cache) (a pos place row : ℕ) : Type 0 where
 -- An entry that may come.
 pub record Addable (c : Cache) (e : Entry) : Type 0 where
   pub free : has_free c.rows ≡ true
-  pub absent : get c.rows e.address ≡ none
+  pub absent : get c.rows e.address ≡ None
   pub allowed : EntryAllowed e
 
 -- Settings and a maximum that may be taken.

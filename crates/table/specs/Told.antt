@@ -1,8 +1,7 @@
 -- What the functions tell, and the cache that a change leaves.
-use Rattle.std.specs.Prelude.{ℕ, ◌+◌, min, Bool, true, false, List, [], ◌∷◌, ◌++◌, ◌≡◌, eqb, length, get_or, set, drop, if◌then◌else◌}
-use Rattle.std.proofs.Math.Option.{some}
+use Rattle.std.specs.Prelude.{ℕ, ◌+◌, min, Bool, true, false, List, [], ◌∷◌, ◌++◌, ◌≡◌, eqb, length, get_or, set, drop, if◌then◌else◌, Some, Option, None}
 use Rattle.rules.specs.declared.entry.Entry.{Entry}
-use Rattle.rules.specs.declared.entry.Row.{Row}
+use Rattle.rules.specs.Types.{Row}
 use Rattle.rules.specs.declared.order.Kind.{Kind}
 use Rattle.rules.specs.Addresses.{strike}
 use Rattle.rules.specs.Cache.{Cache, with_rows, amend_at}
@@ -15,12 +14,11 @@ use Rattle.layout.specs.Layout.{row_at, recency_at}
 use Rattle.layout.specs.Leaves.{put_order}
 use Rattle.layout.specs.Picture.{row_number, addresses, encode, cache_in, rest_in}
 use Rattle.layout.specs.Places.{lowest_free, place_of}
-use Rattle.table.specs.declared.lookup.Found.TheVariants.{At, Nothing}
 use Rattle.table.specs.declared.lookup.Found.{Found}
 
 -- Where an address stands among the rising addresses, and its row.
-unfoldable pub found_in : List Row → ℕ → Found
-found_in rows a = if is_here rows a then At (place_of a (addresses rows)) (row_number rows a) else Nothing
+unfoldable pub found_in : List Row → ℕ → Option Found
+found_in rows a = if is_here rows a then Some (record { place = place_of a (addresses rows); row = row_number rows a }) else None
 
 -- What the entry at an address adds to the clean bytes.
 abbrev pub clean_size : List Row → ℕ → ℕ
@@ -82,7 +80,7 @@ listed_at ws pos = get_or (cache_in ws).recency pos 0
 -- From words ws to words vs: the entry at a is gone, and is the answer.
 pub record Drops (a : ℕ) (ws vs : List ℕ) (answer : Entry) : Type 0 where
   pub holds : Holds vs (dropped a (cache_in ws)) (rest_in ws)
-  pub entry : get (cache_in ws).rows a ≡ some answer
+  pub entry : get (cache_in ws).rows a ≡ Some answer
 
 -- From words ws to words vs: the entry at a is clean, and its size is the answer.
 pub record Cleans (a : ℕ) (ws vs : List ℕ) (answer : ℕ) : Type 0 where

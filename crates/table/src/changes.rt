@@ -84,7 +84,6 @@ pub fn add_entry(table: &mut [u64], rows: usize, e: Entry)
     ensures { Holds table.new (added e (cache_in table.old)) (rest_in table.old) }
 {
     let n = listed_len(table, rows);
-    let on = is_listed(e);
     let row = place_entry(table, rows, e);
-    list_on(table, rows, n, row, on);
+    list_on(table, rows, n, row, is_listed(e));
 }

@@ -1,4 +1,6 @@
-// The header's words, read and written.
+// The header's words, read and written: a function for each. One for all would be given the word's place and the field that it is.
+#![tactic(auto, unfolding(layout::specs::Picture::cache_in))]
+
 ghost use Rattle.std.specs.Prelude.{◌≡◌, ◌≤◌, length};
 ghost use Rattle.rules.specs.Cache.{with_settings, with_maximum, with_counters, with_count, with_next, with_exceeded, restart};
 ghost use Rattle.rules.specs.Limits.{count_stop};

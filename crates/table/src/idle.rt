@@ -15,11 +15,9 @@ fn age_row(table: &mut [u64], row: usize)
     ensures { table.new ≡ age_words row table.old }
 {
     let at = HEADER + row * WIDTH;
-    if table[at + 1] == 0 {
-        return;
+    if table[at + 1] != 0 {
+        table[at + 3] = older(table[at + 3]);
     }
-    let idle = older(table[at + 3]);
-    table[at + 3] = idle;
 }
 
 // Each idle count rises by one, up to 10.
@@ -27,9 +25,7 @@ pub fn age_all(table: &mut [u64], rows: usize)
     requires { GoodRows table.old rows }
     ensures { Holds table.new (aged (cache_in table.old)) (rest_in table.old) }
 {
-    let mut i: usize = 0;
-    while i < rows {
+    for i in 0..rows {
         age_row(table, i);
-        i += 1;
     }
 }

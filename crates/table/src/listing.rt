@@ -1,4 +1,5 @@
-// An entry's row taken off the recency list, or put at its head.
+// An entry's row taken off the recency list, or put at its head. Whether it stands there, and whether it is to, are flags: `Off` and
+// `put_on` say what either comes to.
 ghost use Rattle.std.specs.Prelude.{◌≡◌, ◌+◌, ◌<◌, length};
 ghost use Rattle.rules.specs.Addresses.{elem};
 ghost use Rattle.layout.specs.Layout.{recency_at};
@@ -32,6 +33,5 @@ pub fn list_on(table: &mut [u64], rows: usize, n: usize, row: usize, on: bool)
 {
     if on {
         table[recency_at(rows) + n] = row as u64;
-        return;
     }
 }

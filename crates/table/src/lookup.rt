@@ -1,6 +1,5 @@
 // An address, its row, and its places in the two runs.
 ghost use Rattle.std.specs.Prelude.{◌≡◌, true, ◌<◌, ◌≤◌, length, get_or};
-ghost use Rattle.std.proofs.Math.Option.{some};
 ghost use Rattle.rules.specs.Addresses.{elem};
 ghost use Rattle.rules.specs.Rows.{get, dirty_at};
 ghost use Rattle.layout.specs.Picture.{addresses, cache_in};
@@ -16,9 +15,9 @@ use rules::entry::Entry;
 
 // Where an address stands: its place among the rising addresses, and its row.
 #[derive(Clone, Copy)]
-pub enum Found {
-    At { place: usize, row: usize },
-    Nothing,
+pub struct Found {
+    pub place: usize,
+    pub row: usize,
 }
 
 // The row at a place of the recency list.
@@ -42,8 +41,7 @@ pub fn key_at(table: &[u64], rows: usize, place: usize) -> u64
     requires { GoodRows table.now rows × (place < length (addresses (cache_in table.now).rows)) }
     ensures { result ≡ get_or (addresses (cache_in table.now).rows) place 0 }
 {
-    let row = address_row(table, rows, place);
-    table[HEADER + row * WIDTH]
+    table[HEADER + address_row(table, rows, place) * WIDTH]
 }
 
 // Where a search between low and high that began at `near` looks next. Any place between them serves; from `near` on the steps
@@ -72,6 +70,7 @@ pub fn place_of(table: &[u64], rows: usize, n: usize, near: usize, address: u64)
 {
     let mut low: usize = 0;
     let mut high = n;
+    // No search of slices looks at a given place first and then at those near it.
     while low < high {
         let at = next_look(low, high, near);
         let key = key_at(table, rows, at);
@@ -97,22 +96,20 @@ pub fn place_among(table: &[u64], rows: usize, address: u64) -> usize
 }
 
 // Where an address stands among the n, looked for first at the place `near`.
-pub fn find_near(table: &[u64], rows: usize, n: usize, near: usize, address: u64) -> Found
+pub fn find_near(table: &[u64], rows: usize, n: usize, near: usize, address: u64) -> Option<Found>
     requires { GoodRows table.now rows × (n ≡ length (addresses (cache_in table.now).rows)) }
     ensures { result ≡ found_in (cache_in table.now).rows address }
 {
     let place = place_of(table, rows, n, near, address);
-    if place < n {
-        if key_at(table, rows, place) == address {
-            let row = address_row(table, rows, place);
-            return Found::At { place, row };
-        }
+    if place < n && key_at(table, rows, place) == address {
+        let row = address_row(table, rows, place);
+        return Some(Found { place, row });
     }
-    Found::Nothing
+    None
 }
 
 // Where an address stands.
-pub fn find(table: &[u64], rows: usize, address: u64) -> Found
+pub fn find(table: &[u64], rows: usize, address: u64) -> Option<Found>
     requires { GoodRows table.now rows }
     ensures { result ≡ found_in (cache_in table.now).rows address }
 {
@@ -123,7 +120,7 @@ pub fn find(table: &[u64], rows: usize, address: u64) -> Found
 // The entry at an address that is there, whose row is given.
 pub fn entry_of(table: &[u64], rows: usize, row: usize, address: u64) -> Entry
     requires { GoodRows table.now rows × RowOf (cache_in table.now).rows address row }
-    ensures { get (cache_in table.now).rows address ≡ some result }
+    ensures { get (cache_in table.now).rows address ≡ Some result }
 {
     entry_at(table, row)
 }
@@ -133,23 +130,17 @@ pub fn dirty_at(table: &[u64], rows: usize, pos: usize) -> bool
     requires { GoodRows table.now rows × (pos < length (cache_in table.now).recency) }
     ensures { result ≡ dirty_at (cache_in table.now).rows (listed_at table.now pos) }
 {
-    let row = recency_row(table, rows, pos);
-    let e = entry_at(table, row);
-    e.dirty
+    entry_at(table, recency_row(table, rows, pos)).dirty
 }
 
-// The place of a listed address, whose row is given, in the recency list.
+// The place of a listed address, whose row is given, in the recency list. It is listed, so the search finds it.
 pub fn recency_place(table: &[u64], rows: usize, row: usize, address: u64) -> usize
     requires { GoodRows table.now rows × RowOf (cache_in table.now).rows address row × (elem address (cache_in table.now).recency ≡ true) }
     ensures { PlaceIn (cache_in table.now).recency address result }
 {
     let at = recency_at(rows);
-    let mut i: usize = 0;
-    while i < rows {
-        if table[at + i] == row as u64 {
-            return i;
-        }
-        i += 1;
-    }
-    i
+    let run = &table[at..at + rows];
+    run.iter()
+        .position(|word| *word == row as u64)
+        .unwrap_or(rows)
 }

@@ -1,10 +1,11 @@
-// An entry evicted or written, with its order; the answer is its size.
+// An entry evicted or written, with its order; the answer is its size. The words for orders are the host's, and `given` counts those that
+// are in them: there is no heap.
 ghost use Rattle.std.specs.Prelude.{◌≡◌, ◌+◌, ◌*◌, ◌<◌, ◌≤◌, length};
-ghost use Rattle.std.proofs.Math.Option.{some};
 ghost use Rattle.rules.specs.declared.order.Kind.TheVariants.{Write, Evict};
 ghost use Rattle.rules.specs.Cache.{amend_at};
 ghost use Rattle.rules.specs.Entries.{cleaned as cleaned_entry};
 ghost use Rattle.rules.specs.Rows.{get};
+ghost use Rattle.layout.specs.Leaves.{put_order};
 ghost use Rattle.layout.specs.Picture.{cache_in, rest_in};
 ghost use Rattle.layout.specs.Holds.{Holds};
 ghost use Rattle.table.specs.Asked.{GoodRows, RowOf};
@@ -21,6 +22,20 @@ use layout::run::run_cut;
 use layout::{HEADER, WIDTH};
 use rules::entry::Entry;
 use rules::order::{Kind, Order};
+
+// Gives the order with this number, and answers the size in it.
+fn give(orders: &mut [u64], given: usize, kind: Kind, address: u64, size: u64) -> u64
+    requires { given * 3 + 3 ≤ length orders.old }
+    ensures { (result ≡ size) × (orders.new ≡ put_order given (record { kind = kind; address = address; size = size }) orders.old) }
+{
+    let order = Order {
+        kind,
+        address,
+        size,
+    };
+    order_put(orders, given, order);
+    size
+}
 
 // The entry at a place of the recency list goes, and is the answer.
 pub fn drop_listed(table: &mut [u64], rows: usize, pos: usize) -> Entry
@@ -40,16 +55,7 @@ pub fn evict_at(table: &mut [u64], orders: &mut [u64], rows: usize, pos: usize, 
     ensures { Gives Evict (listed_at table.old pos) (dropped (listed_at table.old pos)) table.old table.new given orders.old orders.new result }
 {
     let e = drop_listed(table, rows, pos);
-    order_put(
-        orders,
-        given,
-        Order {
-            kind: Kind::Evict,
-            address: e.address,
-            size: e.size,
-        },
-    );
-    e.size
+    give(orders, given, Kind::Evict, e.address, e.size)
 }
 
 // The entry at an address, whose row is given, is written where it stands.
@@ -65,16 +71,7 @@ pub fn write_row(
     ensures { Gives Write address (amend_at address cleaned_entry) table.old table.new given orders.old orders.new result }
 {
     let size = clean_row(table, rows, row, address);
-    order_put(
-        orders,
-        given,
-        Order {
-            kind: Kind::Write,
-            address,
-            size,
-        },
-    );
-    size
+    give(orders, given, Kind::Write, address, size)
 }
 
 // The entry at a place of the recency list is written and keeps its place.
@@ -89,11 +86,10 @@ pub fn write_at(table: &mut [u64], orders: &mut [u64], rows: usize, pos: usize, 
 
 // The entry at the tail, whose row is given, becomes e, clean, and goes to the head of the list of n.
 fn turn_row(table: &mut [u64], rows: usize, n: usize, row: usize, e: Entry)
-    requires { GoodRows table.old rows × (0 < n) × (n ≡ length (cache_in table.old).recency) × RowOf (cache_in table.old).rows (listed_at table.old 0) row × (get (cache_in table.old).rows (listed_at table.old 0) ≡ some e) }
+    requires { GoodRows table.old rows × (0 < n) × (n ≡ length (cache_in table.old).recency) × RowOf (cache_in table.old).rows (listed_at table.old 0) row × (get (cache_in table.old).rows (listed_at table.old 0) ≡ Some e) }
     ensures { Holds table.new (turned (cache_in table.old)) (rest_in table.old) }
 {
-    let clean = cleaned(e);
-    put_entry(table, row, clean);
+    put_entry(table, row, cleaned(e));
     let recency = recency_at(rows);
     run_cut(table, recency, n, 0);
     table[recency + (n - 1)] = row as u64;
@@ -108,14 +104,5 @@ pub fn turn_tail(table: &mut [u64], orders: &mut [u64], rows: usize, given: usiz
     let row = recency_row(table, rows, 0);
     let e = entry_at(table, row);
     turn_row(table, rows, n, row, e);
-    order_put(
-        orders,
-        given,
-        Order {
-            kind: Kind::Write,
-            address: e.address,
-            size: e.size,
-        },
-    );
-    e.size
+    give(orders, given, Kind::Write, e.address, e.size)
 }

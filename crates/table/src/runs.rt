@@ -12,17 +12,7 @@ fn run_length(table: &[u64], at: usize, n: usize) -> usize
     requires { RunIn table.now at n }
     ensures { result ≡ length (run_of n (drop at table.now)) }
 {
-    let mut low: usize = 0;
-    let mut high = n;
-    while low < high {
-        let mid = low + (high - low) / 2;
-        if table[at + mid] == ONES {
-            high = mid;
-        } else {
-            low = mid + 1;
-        }
-    }
-    low
+    table[at..at + n].partition_point(|word| *word != ONES)
 }
 
 // The length of the recency list.

@@ -16,13 +16,10 @@ pub fn any_clean(table: &[u64], rows: usize) -> bool
     requires { GoodRows table.now rows }
     ensures { result ≡ some_address (clean_at (cache_in table.now).rows) (cache_in table.now).recency }
 {
-    let n = listed_len(table, rows);
-    let mut i: usize = 0;
-    while i < n {
+    for i in 0..listed_len(table, rows) {
         if !dirty_at(table, rows, i) {
             return true;
         }
-        i += 1;
     }
     false
 }
@@ -32,27 +29,23 @@ pub fn any_held(table: &[u64], rows: usize) -> bool
     requires { GoodRows table.now rows }
     ensures { result ≡ some_entry (λ e. is_held e.hold) (cache_in table.now).rows }
 {
-    let mut i: usize = 0;
-    while i < rows {
+    for i in 0..rows {
         if table[HEADER + i * WIDTH + 5] != 0 {
             return true;
         }
-        i += 1;
     }
     false
 }
 
-// The lowest free row, or the number of rows where none is free.
+// The lowest free row, or the number of rows where none is free. No Option: `lowest_free` counts so, and its one caller has a free row.
 pub fn free_row(table: &[u64], rows: usize) -> usize
     requires { GoodRows table.now rows }
     ensures { result ≡ lowest_free (cache_in table.now).rows }
 {
-    let mut i: usize = 0;
-    while i < rows {
+    for i in 0..rows {
         if table[HEADER + i * WIDTH + 1] == 0 {
             return i;
         }
-        i += 1;
     }
-    i
+    rows
 }

@@ -12,10 +12,8 @@ pub fn held_bytes(table: &[u64], rows: usize) -> u64
     ensures { result ≡ held_bytes (cache_in table.now).rows }
 {
     let mut sum: u64 = 0;
-    let mut i: usize = 0;
-    while i < rows {
+    for i in 0..rows {
         sum += table[HEADER + i * WIDTH + 1];
-        i += 1;
     }
     sum
 }

@@ -16,10 +16,8 @@ pub fn touch_entry(table: &mut [u64], rows: usize, row: usize, e: Entry)
     requires { GoodRows table.old rows × RowOf (cache_in table.old).rows e.address row × EntryAllowed e }
     ensures { Holds table.new (touch e.address (become e) (cache_in table.old)) (rest_in table.old) }
 {
-    let old = entry_at(table, row);
-    let was = is_listed(old);
-    let on = is_listed(e);
+    let was = is_listed(entry_at(table, row));
     let n = list_off(table, rows, row, e.address, was);
     put_entry(table, row, e);
-    list_on(table, rows, n, row, on);
+    list_on(table, rows, n, row, is_listed(e));
 }

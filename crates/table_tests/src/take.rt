@@ -1,6 +1,5 @@
-// Take's tests, in the order of judging.
+// Take's tests, in the order of judging. The rows that they note go into an array that is lent: there is no heap for a list.
 ghost use Rattle.std.specs.Prelude.{List, ◌≡◌, ℕ, length};
-ghost use Rattle.rules.specs.declared.answer.Verdict.TheVariants as verdict;
 ghost use Rattle.rules.specs.declared.request.Request.TheVariants.{Take};
 ghost use Rattle.rules.specs.Limits.{most_rows};
 ghost use Rattle.rules.specs.Refusals.{tests};
@@ -11,28 +10,12 @@ ghost use Rattle.table_tests.specs.Noted.{Right, TestedRight, TestedAs};
 
 use entries::is_standby;
 use message::number::out_of_turn;
-use message::read::{Read, read_message};
-use rules::answer::{Refusal, Verdict};
+use message::read::{BadMessage, read_message};
+use rules::answer::Refusal;
 use table::header::{mode, next_number};
 use taken_list::{MOST_ROWS, bad_list};
 
-// What the tests tell, and if none passes, how many addresses the message has.
-#[derive(Clone, Copy)]
-pub struct Tested {
-    pub verdict: Verdict,
-    pub count: usize,
-}
-
-fn refused(refusal: Refusal) -> Tested
-    ensures { result.verdict ≡ verdict.Refused refusal }
-{
-    Tested {
-        verdict: Verdict::Refused(refusal),
-        count: 0,
-    }
-}
-
-// The tests of a right message, from its number on; where none passes, the rows of its addresses are noted.
+// The tests of a right message, from its number on; where none passes, how many addresses it has, whose rows are noted.
 fn test_right(
     table: &[u64],
     rows: usize,
@@ -41,60 +24,61 @@ fn test_right(
     ones: bool,
     list: &[u64],
     named: &mut [u16; MOST_ROWS],
-) -> Tested
+) -> Result<usize, Refusal>
     requires { GoodRows table.now rows × (length list.now ≡ most_rows) × (length named.old ≡ most_rows) }
     ensures { (l : List ℕ) → Right l list.now count ones → TestedRight (cache_in table.now) number l named.new result }
 {
     if out_of_turn(next_number(table), number) {
-        return refused(Refusal::Number);
+        return Err(Refusal::Number);
     }
     if ones {
-        return refused(Refusal::Address);
+        return Err(Refusal::Address);
     }
     if (MOST_ROWS as u64) < count {
-        return refused(Refusal::List);
+        return Err(Refusal::List);
     }
     let count = count as usize;
     if bad_list(table, rows, &list[0..count], named) {
-        return refused(Refusal::List);
+        return Err(Refusal::List);
     }
-    Tested {
-        verdict: Verdict::Accepted,
-        count,
-    }
+    Ok(count)
 }
 
-// All tests; where none passes, the rows of the message's addresses are noted.
+// All tests; where none passes, how many addresses the message has, whose rows are noted.
 pub fn take_noting(
     table: &[u64],
     rows: usize,
     message: &[u8],
     named: &mut [u16; MOST_ROWS],
-) -> Tested
+) -> Result<usize, Refusal>
     requires { GoodRows table.now rows × (length named.old ≡ most_rows) }
     ensures { TestedAs (cache_in table.now) message.now named.new result }
 {
     let mut list = [0u64; MOST_ROWS];
     if !is_standby(mode(table)) {
-        return refused(Refusal::Mode);
+        return Err(Refusal::Mode);
     }
     match read_message(message, &mut list) {
-        Read::Right {
-            number,
-            count,
-            ones,
-        } => test_right(table, rows, number, count, ones, &list[..], named),
-        Read::Cut => refused(Refusal::Cut),
-        Read::Malformed => refused(Refusal::Malformed),
+        Ok(read) => test_right(
+            table,
+            rows,
+            read.number,
+            read.count,
+            read.ones,
+            &list[..],
+            named,
+        ),
+        Err(BadMessage::Cut) => Err(Refusal::Cut),
+        Err(BadMessage::Malformed) => Err(Refusal::Malformed),
     }
 }
 
 // The same where only the verdict is asked for.
-pub fn take(table: &[u64], rows: usize, message: &[u8]) -> Verdict
+pub fn take(table: &[u64], rows: usize, message: &[u8]) -> Result<(), Refusal>
     requires { GoodRows table.now rows }
     ensures { (lent : ℕ) → Tells result (tests (cache_in table.now) lent message.now Take) }
 {
     let mut named = [0u16; MOST_ROWS];
-    let tested = take_noting(table, rows, message, &mut named);
-    tested.verdict
+    take_noting(table, rows, message, &mut named)?;
+    Ok(())
 }

@@ -1,5 +1,7 @@
 -- The rows that a list names, marked and noted: a row is marked exactly when an address passed stands in it, and those passed are dirty
 -- and distinct, so that there are no more of them than rows.
+use Rattle.std.proofs.lemmas.Option.{none-some}
+use Rattle.std.specs.Prelude.{None, Some}
 use Prim.Native.Nat.{ℕ, zero, suc, ◌+◌, ◌≤◌, ◌<◌}
 use mathlib.Core.Bool.{Bool, true, false, not, ◌||◌, false≢true}
 use mathlib.Core.List.{List, [], ◌∷◌, ◌++◌, map}
@@ -16,7 +18,7 @@ use Rattle.rules.proofs.Lists.{elem_append, elem_first, twice_last}
 use Rattle.rules.proofs.Tests.{split, either, or_true, or_false, neither, swap}
 use Rattle.rules.specs.Addresses.{elem, some_address, twice}
 use Rattle.rules.specs.Rows.{get, is_here, dirty_at}
-use Rattle.rules.specs.declared.entry.Row.{Row}
+use Rattle.rules.specs.Types.{Row}
 use Rattle.layout.proofs.Cuts.{elem_at}
 use Rattle.layout.proofs.Numbers.{here_of, number_low, pigeon, used_most}
 use Rattle.layout.specs.Picture.{row_number}
@@ -24,7 +26,7 @@ use Rattle.rules.specs.Limits.{most_rows}
 use Rattle.table.proofs.Told.{number_one, found_at, found_no}
 use Rattle.table.specs.Asked.{RowOf}
 use Rattle.table.specs.Told.{found_in}
-use Rattle.table.specs.declared.lookup.Found.TheVariants.{At, Nothing}
+use Rattle.table.specs.declared.lookup.Found.{Found}
 use Rattle.taken_list.specs.Listed.{bad_list, dirty_found, Named, JudgedBad}
 
 -- ---- lists in two parts
@@ -86,31 +88,31 @@ module _ (rows : List Row) (a : ℕ) where
   unfolding dirty_found
   in_dirty d = rw d
 
-  pub in_clean : dirty_at rows a ≡ false → dirty_found rows a ≡ Nothing
+  pub in_clean : dirty_at rows a ≡ false → dirty_found rows a ≡ None
   unfolding dirty_found
   in_clean d = rw d
 
-  pub in_none : found_in rows a ≡ Nothing → dirty_found rows a ≡ Nothing
+  pub in_none : found_in rows a ≡ None → dirty_found rows a ≡ None
   in_none e = in_clean (rw (found_no rows a e))
 
-  dirty_none : dirty_found rows a ≡ Nothing → dirty_at rows a ≡ false
+  dirty_none : dirty_found rows a ≡ None → dirty_at rows a ≡ false
   dirty_none e =
       split (dirty_at rows a)
       (λ d. let n = found_no rows a (sym (in_dirty d) ∙ e) in let z : dirty_at rows a ≡ false = rw n in either (dirty_at rows a) d z)
       (λ d. d)
 
-  module _ {place row : ℕ} (e : dirty_found rows a ≡ At place row) where
+  module _ {f : Found} (e : dirty_found rows a ≡ Some f) where
     told_dirty : dirty_at rows a ≡ true
     told_dirty =
         split (dirty_at rows a)
         (λ d. d)
-        (λ d. let q : Nothing ≡ At place row = sym (in_clean d) ∙ e in absurd (let z : ◌≡◌ {A = ℕ} 0 1 = cc in omega arith))
+        (λ d. absurd (none-some f (sym (in_clean d) ∙ e)))
 
-    pub told_found : found_in rows a ≡ At place row
+    pub told_found : found_in rows a ≡ Some f
     told_found = sym (in_dirty told_dirty) ∙ e
 
-    told_row : RowOf rows a row
-    told_row = (found_at rows a place row told_found).0
+    told_row : RowOf rows a f.row
+    told_row = (found_at rows a f told_found).0
 
 -- ---- addresses that are dirty here
 
@@ -181,28 +183,28 @@ module _ {rows : List Row} {list named : List ℕ} {seen : List Bool} {i : ℕ} 
     whole : list ≡ take i list ++ get_or list i 0 ∷ drop (suc i) list
     whole = split_at list i 0 h
 
-    pub bad_absent : dirty_found rows (get_or list i 0) ≡ Nothing → JudgedBad rows list named true
+    pub bad_absent : dirty_found rows (get_or list i 0) ≡ None → JudgedBad rows list named true
     bad_absent e = judged_bad
         (ap (λ (b : Bool). twice list || b)
         (ap (some_address (λ a. not (dirty_at rows a))) whole
         ∙ some_at (λ a. not (dirty_at rows a)) (get_or list i 0) (take i list) (drop (suc i) list) (ap not (dirty_none rows (get_or list i 0) e)))
         ∙ or_true (twice list))
 
-    module _ {place row : ℕ} (e : dirty_found rows (get_or list i 0) ≡ At place row) (few : length rows ≤ most_rows) where
-      is_row : RowOf rows (get_or list i 0) row
+    module _ {f : Found} (e : dirty_found rows (get_or list i 0) ≡ Some f) (few : length rows ≤ most_rows) where
+      is_row : RowOf rows (get_or list i 0) f.row
       is_row = told_row rows (get_or list i 0) e
 
-      pub row_low : row < most_rows
+      pub row_low : f.row < most_rows
       row_low = let l = number_low rows (get_or list i 0) is_row.here in let n = is_row.number in omega arith
 
-      pub bad_again : get_or seen row false ≡ true → JudgedBad rows list named true
+      pub bad_again : get_or seen f.row false ≡ true → JudgedBad rows list named true
       bad_again s =
           let m = elem_row rows (get_or list i 0) (take i list) is_row.here k.dirty
-          (ap (λ (x : ℕ). elem x (map (row_number rows) (take i list))) (sym is_row.number) ∙ sym (k.marks row) ∙ s) in
+          (ap (λ (x : ℕ). elem x (map (row_number rows) (take i list))) (sym is_row.number) ∙ sym (k.marks f.row) ∙ s) in
           judged_bad (ap (λ (b : Bool). b || some_address (λ a. not (dirty_at rows a)) list) (ap twice whole ∙ twice_again (get_or list i 0) (take i list) (drop (suc i) list) m))
 
-      module _ (s : get_or seen row false ≡ false) where
-        low_seen : row < length seen
+      module _ (s : get_or seen f.row false ≡ false) where
+        low_seen : f.row < length seen
         low_seen = let l = row_low in let z = k.size in omega arith
 
         front : take (i + 1) list ≡ take i list ++ get_or list i 0 ∷ []
@@ -212,7 +214,7 @@ module _ {rows : List Row} {list named : List ℕ} {seen : List Bool} {i : ℕ} 
         once_on =
             let new : elem (get_or list i 0) (take i list) ≡ false =
             split (elem (get_or list i 0) (take i list))
-            (λ m. either (get_or seen row false) (k.marks row ∙ ap (λ (x : ℕ). elem x (map (row_number rows) (take i list))) is_row.number ∙ elem_map (row_number rows) (get_or list i 0) (take i list) m) s)
+            (λ m. either (get_or seen f.row false) (k.marks f.row ∙ ap (λ (x : ℕ). elem x (map (row_number rows) (take i list))) is_row.number ∙ elem_map (row_number rows) (get_or list i 0) (take i list) m) s)
             (λ m. m) in
             rw front (twice_last (get_or list i 0) (take i list) k.once new)
 
@@ -223,26 +225,26 @@ module _ {rows : List Row} {list named : List ℕ} {seen : List Bool} {i : ℕ} 
         pub place_low : i < most_rows
         place_low = let m = few_named rows (take (i + 1) list) once_on dirty_on in let n = length-take (i + 1) list in omega arith
 
-        noted_on : (j : ℕ) → j < i + 1 → get_or (set named i row) j 0 ≡ row_number rows (get_or list j 0)
+        noted_on : (j : ℕ) → j < i + 1 → get_or (set named i f.row) j 0 ≡ row_number rows (get_or list j 0)
         noted_on j l =
             let p = place_low in
             let z = k.long in
             ⊎_elim
-            (λ (q : j ≡ i). rw q (get_or-set_same named i row 0 (omega arith) ∙ is_row.number))
-            (λ (q : j < i). get_or-set_other named i j row 0 (λ n. omega arith) ∙ k.noted j q)
+            (λ (q : j ≡ i). rw q (get_or-set_same named i f.row 0 (omega arith) ∙ is_row.number))
+            (λ (q : j < i). get_or-set_other named i j f.row 0 (λ n. omega arith) ∙ k.noted j q)
             (eq-or-lt_of_le {n = j} {m = i} (omega arith))
 
-        pub marked_on : Marked rows list (set named i row) (set seen row true) (i + 1)
+        pub marked_on : Marked rows list (set named i f.row) (set seen f.row true) (i + 1)
         unfolding elem
         marked_on = record {
           low = omega arith;
-          size = length-set seen row true ∙ k.size;
+          size = length-set seen f.row true ∙ k.size;
           once = once_on;
           dirty = dirty_on;
-          marks = λ x. seen_set seen row x low_seen
+          marks = λ x. seen_set seen f.row x low_seen
               ∙ rw (front, map_last (row_number rows) (get_or list i 0) (take i list), elem_append x (map (row_number rows) (take i list)) (row_number rows (get_or list i 0) ∷ []), ← is_row.number, k.marks x)
-              (ap (λ (b : Bool). elem x (map (row_number rows) (take i list)) || b) (sym (or_false (eqb row x))));
-          long = length-set named i row ∙ k.long;
+              (ap (λ (b : Bool). elem x (map (row_number rows) (take i list)) || b) (sym (or_false (eqb f.row x))));
+          long = length-set named i f.row ∙ k.long;
           noted = noted_on;
         }
 

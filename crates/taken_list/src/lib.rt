@@ -14,40 +14,32 @@ use table::runs::used_len;
 pub const MOST_ROWS: usize = 4096;
 
 // Where an address stands among the n, looked for first at the place `near`.
-fn find_next(table: &[u64], rows: usize, n: usize, near: usize, address: u64) -> Found
+fn find_next(table: &[u64], rows: usize, n: usize, near: usize, address: u64) -> Option<Found>
     requires { GoodRows table.now rows × (n ≡ length (addresses (cache_in table.now).rows)) }
     ensures { result ≡ found_in (cache_in table.now).rows address }
 {
-    if near < n {
-        if key_at(table, rows, near) == address {
-            let row = address_row(table, rows, near);
-            return Found::At { place: near, row };
-        }
+    if near < n && key_at(table, rows, near) == address {
+        let row = address_row(table, rows, near);
+        return Some(Found { place: near, row });
     }
     find_near(table, rows, n, near, address)
 }
 
 // The same of an address that is dirty here.
-fn find_dirty(table: &[u64], rows: usize, n: usize, near: usize, address: u64) -> Found
+fn find_dirty(table: &[u64], rows: usize, n: usize, near: usize, address: u64) -> Option<Found>
     requires { GoodRows table.now rows × (n ≡ length (addresses (cache_in table.now).rows)) }
     ensures { result ≡ dirty_found (cache_in table.now).rows address }
 {
-    let found = find_next(table, rows, n, near, address);
-    match found {
-        Found::Nothing => Found::Nothing,
-        Found::At { place, row } => {
-            let e = entry_of(table, rows, row, address);
-            if e.dirty {
-                Found::At { place, row }
-            } else {
-                Found::Nothing
-            }
-        }
+    let found = find_next(table, rows, n, near, address)?;
+    if entry_of(table, rows, found.row, address).dirty {
+        Some(found)
+    } else {
+        None
     }
 }
 
 // Whether the list names an address twice, or one not dirty here; if not, its rows are noted. Each row that it names is marked, and
-// each address is looked for after the one before it.
+// each address is looked for after the one before it. The rows go into an array that is lent: there is no heap for a list.
 pub fn bad_list(table: &[u64], rows: usize, list: &[u64], named: &mut [u16; MOST_ROWS]) -> bool
     requires { GoodRows table.now rows × (length named.old ≡ most_rows) }
     ensures { JudgedBad (cache_in table.now).rows list.now named.new result }
@@ -55,10 +47,8 @@ pub fn bad_list(table: &[u64], rows: usize, list: &[u64], named: &mut [u16; MOST
     let n = used_len(table, rows);
     let mut seen = [false; MOST_ROWS];
     let mut near: usize = 0;
-    let mut i: usize = 0;
-    while i < list.len() {
-        let found = find_dirty(table, rows, n, near, list[i]);
-        let Found::At { place, row } = found else {
+    for (i, address) in list.iter().enumerate() {
+        let Some(Found { place, row }) = find_dirty(table, rows, n, near, *address) else {
             return true;
         };
         if seen[row] {
@@ -67,7 +57,6 @@ pub fn bad_list(table: &[u64], rows: usize, list: &[u64], named: &mut [u16; MOST
         seen[row] = true;
         named[i] = row as u16;
         near = place + 1;
-        i += 1;
     }
     false
 }

@@ -1,8 +1,8 @@
--- How a verdict is told, from the last test to the first.
+-- How a verdict is told, test by test.
 use Prim.Native.Nat.{ℕ}
 use mathlib.Core.Bool.{Bool, true, false}
 use mathlib.Core.List.{List, [], ◌∷◌}
-use mathlib.Core.Option.{Option, none, some}
+use Rattle.std.specs.Prelude.{Option, None, Some, Ok, Err}
 use mathlib.Core.Path.{◌≡◌, refl, sym, ap, ◌∙◌}
 use Rattle.rules.specs.declared.answer.Refusal.{Refusal}
 use Rattle.rules.specs.declared.request.Request.{Request}
@@ -10,12 +10,11 @@ use Rattle.rules.specs.Cache.{Cache}
 use Rattle.rules.specs.Hosts.{asking}
 use Rattle.rules.specs.Refusals.{Test, first_of, tests, refusal_of}
 use Rattle.rules.specs.Answers.{verdict_of}
-use Rattle.rules.specs.declared.answer.Verdict.{Verdict}
-use Rattle.rules.specs.declared.answer.Verdict.TheVariants as verdict
+use Rattle.rules.specs.Types.{Verdict}
 use Rattle.verdicts.specs.Tells.{Tells, tested_before}
 
 -- no test passes
-pub done : Tells verdict.Accepted []
+pub done : Tells (Ok tt) []
 unfolding first_of
 done = record { same = refl }
 
@@ -29,7 +28,7 @@ pub on : {t u : Bool} {r : Refusal} {l : List Test} {v w : Verdict} → w ≡ te
 on {t} {u} {r} {l} e p k = record { same = e ∙ ap (tested_before t r) k.same ∙ ap (λ (b : Bool). tested_before b r (verdict_of (first_of l))) p ∙ first_of_next u r l }
 
 -- the first test that passes
-pub stops : {u : Bool} {r : Refusal} {l : List Test} → u ≡ true → Tells (verdict.Refused r) ((u, r) ∷ l)
+pub stops : {u : Bool} {r : Refusal} {l : List Test} → u ≡ true → Tells (Err r) ((u, r) ∷ l)
 unfolding first_of
 stops e = record { same = rw e }
 
@@ -44,10 +43,10 @@ matched c message lent e k = k.same ∙ ap (λ (r : Request). verdict_of (first_
 
 -- ---- a refusal, or none, of a verdict
 
-pub verdict_some : (o : Option Refusal) (r : Refusal) → verdict_of o ≡ verdict.Refused r → o ≡ some r
-verdict_some none r e = cc
-verdict_some (some q) r e = cc
+pub verdict_some : (o : Option Refusal) (r : Refusal) → verdict_of o ≡ Err r → o ≡ Some r
+verdict_some None r e = cc
+verdict_some (Some q) r e = cc
 
-pub verdict_none : (o : Option Refusal) → verdict_of o ≡ verdict.Accepted → o ≡ none
-verdict_none none e = refl
-verdict_none (some q) e = cc
+pub verdict_none : (o : Option Refusal) → verdict_of o ≡ Ok tt → o ≡ None
+verdict_none None e = refl
+verdict_none (Some q) e = cc

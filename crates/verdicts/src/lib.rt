@@ -1,17 +1,17 @@
-// A verdict, made of a request's tests from the last to the first.
+// A verdict, made of a request's tests in the order of judging.
 #![tactic(auto)]
 
 ghost use Rattle.std.specs.Prelude.{◌≡◌};
 ghost use Rattle.verdicts.specs.Tells.{tested_before};
 
-use rules::answer::{Refusal, Verdict};
+use rules::answer::Refusal;
 
-// A test before others that have a verdict.
-pub fn test(passes: bool, refusal: Refusal, rest: Verdict) -> Verdict
-    ensures { result ≡ tested_before passes refusal rest }
+// One test: where it holds, the request is refused.
+pub fn refuse_if(holds: bool, refusal: Refusal) -> Result<(), Refusal>
+    ensures { result ≡ tested_before holds refusal (Ok tt) }
 {
-    if passes {
-        return Verdict::Refused(refusal);
+    if holds {
+        return Err(refusal);
     }
-    rest
+    Ok(())
 }

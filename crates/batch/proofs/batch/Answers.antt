@@ -1,6 +1,5 @@
 -- A table that does not pass is refused; on one that does the requests are done in turn.
 use mathlib.Core.Path.{◌∙◌}
-use borrow.Author.Rules.{rules}
 use Rattle.cache.proofs.StepAnswers.{passes_told, fails_told}
 use Rattle.batch.proofs.Batching.{batch_damaged, batch_passes}
 use mathlib.Core.Path.{ap}

@@ -1,14 +1,10 @@
 -- What is done so far, and the rest by the same rule, come to the whole. The measure is the words of requests that are left.
-use Prim.Native.Nat.{◌+◌, ◌*◌, ◌-◌}
-use mathlib.Core.Path.{◌≡◌, refl, ◌∙◌}
-use native.Mathlib.Omega.{arith}
-use lib.ListN.{length, drop, set, length-drop, length-set}
-use lib.Seq.{length-take-le}
-use borrow.Author.Rules.{rules}
-use borrow.Rule.Slice.PartMut.{same_len_mid}
+use Prim.Native.Nat.{◌*◌, ◌-◌}
+use mathlib.Core.Path.{◌≡◌}
+use lib.ListN.{length}
 use Rattle.layout.specs.Picture.{cache_in}
 use Rattle.room.specs.Held.{HeldIs}
-use Rattle.batch.proofs.Batching.{Doing, doing_start, doing_end, no_request, no_answer, one_lacks, one_done, held_next}
+use Rattle.batch.proofs.Batching.{Doing}
 use Rattle.batch.specs.Batch.{one_by_one}
 use Rattle.batch.proofs.one_by_one.Given as goal
 

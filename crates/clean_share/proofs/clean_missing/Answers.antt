@@ -5,7 +5,7 @@ use Rattle.table.proofs.Passes.{clean_next, clean_end}
 use Rattle.clean_share.proofs.clean_missing.Goals as goal
 
 pub loop-pos-init : goal.loop-pos-init
-loop-pos-init c = (search rules, c.listed_len-listed.ensures, omega arith)
+loop-pos-init c = (c.listed_len-pos-end.ensures, omega arith)
 
 pub returns-then-left-size : goal.returns-then-left-size
 returns-then-left-size c =
@@ -15,7 +15,7 @@ returns-then-left-size c =
 pub loop-pos-preserved : goal.loop-pos-preserved
 loop-pos-preserved c =
     let t = c.args.table.now in
-    (search rules, search rules, omega (arith, clean_next (cache_in t).recency c.loop-pos.pos (cache_in t).rows (omega arith), c.clean_size-size.ensures))
+    (search rules, omega (arith, clean_next (cache_in t).recency c.loop-pos.pos (cache_in t).rows (omega arith), c.clean_size-size.ensures))
 
 pub returns : goal.returns
 returns c =

@@ -1,5 +1,5 @@
 -- What is left, less the clean bytes from the place reached on, is what is missing in all; an entry that has all that is left ends it.
-use Prim.Native.Nat.{◌≤◌, ◌-◌}
+use Prim.Native.Nat.{◌-◌}
 use mathlib.Core.Path.{◌≡◌}
 use lib.ListN.{length, drop}
 use Rattle.rules.specs.Room.{clean_bytes}
@@ -8,8 +8,5 @@ use Rattle.clean_share.proofs.clean_missing.Given as goal
 
 abbrev pub invariant-loop-pos : goal.invariant-loop-pos
 invariant-loop-pos l =
-    (l.pos ≤ l.listed) × (l.listed ≡ length (cache_in l.table).recency)
+    (l.pos-end ≡ length (cache_in l.table).recency)
     × (l.left - clean_bytes (cache_in l.table).rows (drop l.pos (cache_in l.table).recency) ≡ l.wanted - clean_bytes (cache_in l.table).rows (cache_in l.table).recency)
-
-abbrev pub decreases-loop-pos : goal.decreases-loop-pos
-decreases-loop-pos l = l.listed - l.pos

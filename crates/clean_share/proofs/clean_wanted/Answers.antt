@@ -11,4 +11,4 @@ overflow_add-held c =
 
 pub returns : goal.returns
 returns c =
-    wanted_found (cache_in c.args.table.now) c.args.size _ _ _ c.maximum-maximum.ensures c.settings-s.ensures c.requires.2 c.less-unused.ensures c.size_product.ensures c.less.ensures
+    wanted_found (cache_in c.args.table.now) c.args.size _ _ _ c.maximum-maximum.ensures c.settings.ensures c.requires.2 c.saturating_sub.ensures c.size_product-minimum.ensures c.saturating_sub-2.ensures

@@ -26,4 +26,4 @@ returns c =
     let k = c.set_all-change.ensures.holds in
     let m = c.make_room-made.ensures in
     let d = m.did in
-    record { did = rw (holds_cache k, holds_rest k) at d; explains = record { reasons = c.room_alone-runs.ensures ∙ configured_reasons c.args.s (cache_in c.args.table.now) k m.named; change = c.set_all-change.ensures.change } }
+    record { did = rw (holds_cache k, holds_rest k) at d; explains = record { reasons = c.room_alone.ensures ∙ configured_reasons c.args.s (cache_in c.args.table.now) k m.named; change = c.set_all-change.ensures.change } }

@@ -4,8 +4,7 @@ use Rattle.rules.proofs.Effects.{size_most}
 use Rattle.rules.specs.Requests.{effect}
 use Rattle.reason_rules.specs.Reasons.{reasons_of, changes_of}
 use Rattle.layout.specs.Picture.{cache_in}
-use Rattle.room.proofs.Orders.{did_onward}
-use Rattle.room.proofs.Orders.{words_fit}
+use Rattle.room.proofs.Orders.{did_onward, words_fit}
 use Rattle.admission.proofs.Admission.{admitted_good, admitted_free, admitted_absent}
 use Rattle.insert.specs.Inserted.{inserted_in}
 use Rattle.refusals.proofs.Unrefused.{insertable}
@@ -31,4 +30,4 @@ pub returns : goal.returns
 unfolding effect reasons_of changes_of
 returns c =
     let a = c.admit-admitted.ensures in
-    record { did = did_onward (inserted_in c.args.address c.args.size) a.did c.add_dirty.ensures; explains = record { reasons = c.room_alone-runs.ensures ∙ a.named.0; change = a.named.1 } }
+    record { did = did_onward (inserted_in c.args.address c.args.size) a.did c.add_dirty.ensures; explains = record { reasons = c.room_alone.ensures ∙ a.named.0; change = a.named.1 } }

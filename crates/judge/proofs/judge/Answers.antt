@@ -1,5 +1,6 @@
 -- `judge` gives the verdict on the table's words: it answers whether each part fits, and the words fit exactly where the verdict is true.
-use native.Mathlib.Omega.{arith}
+use Rattle.std.proofs.Common.{ap, arith}
+use Rattle.judge.specs.declared.header.Opening.{Opening}
 use Rattle.judge.proofs.Says.{says_no, says_by, denies}
 use Rattle.judge.proofs.Parts.{from_settings}
 use Rattle.judge.proofs.Verdicts.{answered}
@@ -9,35 +10,26 @@ pub returns-then-table-lt-HEADER : goal.returns-then-table-lt-HEADER
 returns-then-table-lt-HEADER c = answered (says_no (λ p. let h = p.whole in omega arith))
 
 pub returns-then-not-opening_allowed : goal.returns-then-not-opening_allowed
-returns-then-not-opening_allowed c = answered (says_no (λ p. denies c.opening_allowed.ensures c.if-not-opening_allowed.true p.opening))
-
-pub recency_at-recency-requires : goal.recency_at-recency-requires
-recency_at-recency-requires c = let h = c.opening_allowed.ensures.sound c.if-not-opening_allowed.false in omega arith
-
-pub addresses_at-order-requires : goal.addresses_at-order-requires
-addresses_at-order-requires c = let h = c.opening_allowed.ensures.sound c.if-not-opening_allowed.false in omega arith
-
-pub layout_words-end-requires : goal.layout_words-end-requires
-layout_words-end-requires c = let h = c.opening_allowed.ensures.sound c.if-not-opening_allowed.false in omega arith
+returns-then-not-opening_allowed c =
+    answered (says_no (λ p. denies (rw c.opening_in-opening.ensures at c.opening_allowed.ensures) c.if-not-opening_allowed.true p.opening))
 
 pub returns-then-table-end : goal.returns-then-table-end
-returns-then-table-end c = answered (says_no (λ p. let h = p.long in omega (arith, c.layout_words-end.ensures)))
+returns-then-table-end c =
+    answered (says_no (λ p. let h = p.long in omega (arith, c.layout_words-end.ensures, ap (λ (o : Opening). o.rows) c.opening_in-opening.ensures)))
 
 pub returns-then-not-settings_allowed : goal.returns-then-not-settings_allowed
-returns-then-not-settings_allowed c = answered (says_no (λ p. denies (from_settings c.args.table.now c.settings_allowed.ensures) c.if-not-settings_allowed.true p.settings))
-
-pub parts_allowed-requires : goal.parts_allowed-requires
-parts_allowed-requires c = let h = c.opening_allowed.ensures.sound c.if-not-opening_allowed.false in (h.rows, omega (arith, c.layout_words-end.ensures))
+returns-then-not-settings_allowed c =
+    answered (says_no (λ p. denies (from_settings c.args.table.now (rw c.figures_in.ensures at c.settings_allowed.ensures)) c.if-not-settings_allowed.true p.settings))
 
 pub returns : goal.returns
 returns c =
-    let h = c.opening_allowed.ensures.sound c.if-not-opening_allowed.false in
     answered (says_by
     (λ q. record {
       whole = omega arith;
-      opening = h;
-      long = omega (arith, c.layout_words-end.ensures);
-      settings = (from_settings c.args.table.now c.settings_allowed.ensures).sound c.if-not-settings_allowed.false;
+      opening = (rw c.opening_in-opening.ensures at c.opening_allowed.ensures).sound c.if-not-opening_allowed.false;
+      long = omega (arith, c.layout_words-end.ensures, ap (λ (o : Opening). o.rows) c.opening_in-opening.ensures);
+      settings = (from_settings c.args.table.now (rw c.figures_in.ensures at c.settings_allowed.ensures)).sound c.if-not-settings_allowed.false;
       parts = q;
     })
-    (λ p. p.parts) (rw (c.recency_at-recency.ensures, c.addresses_at-order.ensures, c.layout_words-end.ensures) at c.parts_allowed.ensures))
+    (λ p. p.parts)
+    (rw (c.recency_at-recency.ensures, c.addresses_at-order.ensures, c.layout_words-end.ensures, c.opening_in-opening.ensures) at c.parts_allowed.ensures))

@@ -6,4 +6,4 @@ use Rattle.epoch.specs.Counts.{aged_runs}
 use Rattle.protect.proofs.done_by_hit.Goals as goal
 
 pub returns : goal.returns
-returns c = (refl, ap (λ (l : List Reason). l ++ aged_runs c.args.counted) c.no_runs-room.ensures, refl)
+returns c = (refl, ap (λ (l : List Reason). l ++ aged_runs c.args.counted) c.no_runs.ensures, refl)

@@ -3,4 +3,4 @@ use mathlib.Core.Path.{refl}
 use Rattle.protect.proofs.done_by_miss.Goals as goal
 
 pub returns : goal.returns
-returns c = (refl, refl, c.first_of-change.ensures)
+returns c = (refl, refl, c.first_of.ensures)

@@ -24,4 +24,4 @@ pub returns : goal.returns
 unfolding effect reasons_of changes_of
 returns c =
     let t = room_told released (unchanged c.entry_of-e.result) c.released.ensures (cache_in c.args.table.now) refl c.requires.0.good c.row_count-rows.ensures c.requires.1 c.entry_of-e.ensures c.touch_entry.ensures c.less_one.result c.less_one.ensures (c.room_unless_held-made.ensures.did, c.room_unless_held-made.ensures.named) in
-    record { did = t.0; explains = record { reasons = c.room_alone-runs.ensures ∙ t.1; change = refl } }
+    record { did = t.0; explains = record { reasons = c.room_alone.ensures ∙ t.1; change = refl } }

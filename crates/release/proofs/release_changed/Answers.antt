@@ -31,9 +31,6 @@ room_unless_held-made-requires c =
     let r = room_asked (changed_released c.args.size) (changed c.args.size c.entry_of-e.result f.size) (c.released.ensures ∙ ap released c.changed_to.ensures) b (named_books c.args.address c.args.size b).rows h c.row_count-rows.ensures c.requires.1 c.entry_of-e.ensures c.touch_entry.ensures c.args.orders.now f.words in
     (r.0, r.1, tt)
 
-pub shape_of-table : goal.shape_of-table
-shape_of-table c = omega (arith, c.table-1.given, c.table-2-1.given, c.table-3-1.given)
-
 pub returns : goal.returns
 unfolding effect reasons_of changes_of
 returns c =
@@ -41,4 +38,4 @@ returns c =
     let f = changeable b (length c.args.orders.now) c.args.address c.args.size c.requires.0.accepted in
     let h = named_here b c.args.address c.args.size c.entry_of-e.result c.entry_of-e.ensures c.name_size-change.ensures.holds in
     let t = room_told (changed_released c.args.size) (changed c.args.size c.entry_of-e.result f.size) (c.released.ensures ∙ ap released c.changed_to.ensures) b (named_books c.args.address c.args.size b).rows h c.row_count-rows.ensures c.requires.1 c.entry_of-e.ensures c.touch_entry.ensures c.less_one.result c.less_one.ensures (c.room_unless_held-made.ensures.did, c.room_unless_held-made.ensures.named) in
-    record { did = t.0; explains = record { reasons = c.room_alone-runs.ensures ∙ t.1; change = own_change b c.args.address c.args.size c.entry_of-e.result c.entry_of-e.ensures c.name_size-change.ensures.change } }
+    record { did = t.0; explains = record { reasons = c.room_alone.ensures ∙ t.1; change = own_change b c.args.address c.args.size c.entry_of-e.result c.entry_of-e.ensures c.name_size-change.ensures.change } }

@@ -7,7 +7,7 @@ use Rattle.release.proofs.room_unless_held.Goals as goal
 pub returns-then-is_held : goal.returns-then-is_held
 returns-then-is_held c =
     let u = sym c.is_held.ensures ∙ c.if-is_held.true in
-    record { did = room_held c.args.hold u c.requires.0.good; named = reasons_held c.args.hold (cache_in c.args.table.now) u c.no_runs-runs.ensures }
+    record { did = room_held c.args.hold u c.requires.0.good; named = reasons_held c.args.hold (cache_in c.args.table.now) u c.no_runs.ensures }
 
 pub returns : goal.returns
 returns c =

@@ -1,5 +1,5 @@
 -- Each sum, with what the rows still to be passed have, is the whole.
-use Prim.Native.Nat.{◌-◌, ◌+◌}
+use Prim.Native.Nat.{◌+◌}
 use mathlib.Core.Path.{◌≡◌}
 use lib.ListN.{drop}
 use Rattle.rules.specs.Rows.{held_bytes, total}
@@ -13,6 +13,3 @@ invariant-loop-i l =
     (l.held + held_bytes (drop l.i (cache_in l.table).rows) ≡ held_bytes (cache_in l.table).rows)
     × (l.dirty + total dirty_size (drop l.i (cache_in l.table).rows) ≡ total dirty_size (cache_in l.table).rows)
     × Filled l.table l.totals l.i l.rows
-
-abbrev pub decreases-loop-i : goal.decreases-loop-i
-decreases-loop-i l = l.rows - l.i

@@ -8,7 +8,7 @@ use Rattle.resize.proofs.name_size.Goals as goal
 
 pub returns-then-e : goal.returns-then-e
 returns-then-e c =
-    record { holds = named_dirty (cache_in c.args.table.now) c.args.e.address c.args.size c.args.e c.requires.1 c.less.result c.less.ensures c.if-e.true c.flash-change.ensures.holds; change = named_change (cache_in c.args.table.now) c.args.e.address c.args.size c.args.e c.requires.1 c.less.result c.less.ensures c.flash-change.ensures.change }
+    record { holds = named_dirty (cache_in c.args.table.now) c.args.e.address c.args.size c.args.e c.requires.1 c.saturating_sub.result c.saturating_sub.ensures c.if-e.true c.flash-change.ensures.holds; change = named_change (cache_in c.args.table.now) c.args.e.address c.args.size c.args.e c.requires.1 c.saturating_sub.result c.saturating_sub.ensures c.flash-change.ensures.change }
 
 pub count-requires : goal.count-requires
 count-requires c = holds_good c.flash-change.ensures.holds
@@ -22,4 +22,4 @@ set_count-requires c = (holds_good c.flash-change.ensures.holds, omega (arith, c
 
 pub returns : goal.returns
 returns c =
-    record { holds = named_clean (cache_in c.args.table.now) c.args.e.address c.args.size c.args.e c.requires.1 c.less.result c.less.ensures c.count.result c.count_with.result c.if-e.false c.flash-change.ensures.holds c.count.ensures c.count_with.ensures c.set_count.ensures; change = named_change (cache_in c.args.table.now) c.args.e.address c.args.size c.args.e c.requires.1 c.less.result c.less.ensures c.flash-change.ensures.change }
+    record { holds = named_clean (cache_in c.args.table.now) c.args.e.address c.args.size c.args.e c.requires.1 c.saturating_sub.result c.saturating_sub.ensures c.count.result c.count_with.result c.if-e.false c.flash-change.ensures.holds c.count.ensures c.count_with.ensures c.set_count.ensures; change = named_change (cache_in c.args.table.now) c.args.e.address c.args.size c.args.e c.requires.1 c.saturating_sub.result c.saturating_sub.ensures c.flash-change.ensures.change }

@@ -1,4 +1,5 @@
 -- Each constant is the fraction that `default_clean` names for its mode, and a literal is the nearest float. Assumes nothing.
+use mathlib.Core.Logic.{inl, inr}
 use lib.Ieee.{of_bits, round}
 use Rattle.settings.proofs.default_clean.Goals as goal
 
@@ -8,8 +9,4 @@ returns-in-Alone c = rw c.in-Alone.is
 
 pub returns-in-Lead : goal.returns-in-Lead
 unfolding of_bits round
-returns-in-Lead c = rw c.in-Lead.is
-
-pub returns-in-Standby : goal.returns-in-Standby
-unfolding of_bits round
-returns-in-Standby c = rw c.in-Standby.is
+returns-in-Lead c = elim c.in-Lead.is [ inl e ↦ rw e | inr e ↦ rw e ]

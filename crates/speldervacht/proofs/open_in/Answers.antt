@@ -1,6 +1,5 @@
 -- The mode's number decides; a threshold of 0 is refused as no mode is.
 use mathlib.Core.Path.{◌∙◌}
-use borrow.Author.Rules.{rules}
 use borrow.Author.Tests.{ne_eqb}
 use Rattle.settings.specs.declared.Mode.TheVariants.{Alone, Lead, Standby}
 use Rattle.numbers.specs.Meanings.{meaning, mode_of_raw}

@@ -1,14 +1,13 @@
 -- A known request is the cache's ask; an unknown one is refused as a step refuses it.
 use mathlib.Core.Path.{ap}
-use borrow.Author.Rules.{rules}
 use Rattle.numbers.specs.Answers.{verdict_numbers}
 use Rattle.speldervacht.specs.Numbers.{ask_numbers}
 use Rattle.speldervacht.proofs.speldervacht_ask.Goals as goal
 
-pub returns-in-Known : goal.returns-in-Known
+pub returns-in-Ok : goal.returns-in-Ok
 unfolding ask_numbers
-returns-in-Known c = rw (c.verdict_of.ensures, ← c.request_of.ensures, c.in-Known.is) (ap verdict_numbers c.ask.ensures)
+returns-in-Ok c = rw (c.into.ensures, ← c.try_from.ensures, c.in-Ok.is) (ap verdict_numbers c.ask.ensures)
 
-pub returns-in-Unknown : goal.returns-in-Unknown
+pub returns-in-Err : goal.returns-in-Err
 unfolding ask_numbers
-returns-in-Unknown c = rw (c.verdict_of-in-Unknown.ensures, ← c.request_of.ensures, c.in-Unknown.is, c.unknown_refusal.ensures)
+returns-in-Err c = rw (c.from.ensures, ← c.try_from.ensures, c.in-Err.is, c.unknown_refusal.ensures)

@@ -1,5 +1,4 @@
 -- The verdict decides.
-use borrow.Author.Rules.{rules}
 use Rattle.speldervacht.proofs.unknown_refusal.Goals as goal
 
 pub returns-then-judge : goal.returns-then-judge

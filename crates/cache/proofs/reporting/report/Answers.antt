@@ -8,7 +8,7 @@ use mathlib.Core.Bool.{not}
 use Rattle.cache.proofs.reporting.report.Goals as goal
 
 pub returns-then-not-judge : goal.returns-then-not-judge
-returns-then-not-judge c = report_refused c.args.table.now c.no_report.result (fails_told c.judge.ensures (ap not c.if-not-judge.true)) c.no_report.ensures
+returns-then-not-judge c = report_refused c.args.table.now (fails_told c.judge.ensures (ap not c.if-not-judge.true))
 
 pub report_of-requires : goal.report_of-requires
 report_of-requires c = good c.args.table.now (passes_told c.judge.ensures (ap not c.if-not-judge.false))

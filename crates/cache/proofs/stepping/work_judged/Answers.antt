@@ -32,13 +32,13 @@ find_named-found-requires c = record { good = good c.args.table.now c.requires.0
 pub refusal_of-verdict-requires : goal.refusal_of-verdict-requires
 refusal_of-verdict-requires c = (record { good = good c.args.table.now c.requires.0; size = c.row_count-rows.ensures }, c.find_named-found.ensures)
 
-pub returns-in-Refused : goal.returns-in-Refused
-returns-in-Refused c =
+pub returns-in-Err : goal.returns-in-Err
+returns-in-Err c =
     let ws = c.args.table.now in
     let os = c.args.orders.now in
     let message = c.args.message.now in
-    let n = c.without_orders-in-Refused.ensures in
-    let v = c.refusal_of-verdict.ensures in record { orders_after = same_left n.0 (step_not ws os message c.args.request c.requires.0 v _ c.in-Refused.is); named = refused_named (cache_in ws) (asking c.args.request message (length os)) v _ c.in-Refused.is n.1 n.2 }
+    let n = c.without_orders-in-Err.ensures in
+    let v = c.refusal_of-verdict.ensures in record { orders_after = same_left n.0 (step_not ws os message c.args.request c.requires.0 v _ c.in-Err.is); named = refused_named (cache_in ws) (asking c.args.request message (length os)) v _ c.in-Err.is n.1 n.2 }
 
 pub carry_out-done-requires : goal.carry_out-done-requires
 carry_out-done-requires c = (

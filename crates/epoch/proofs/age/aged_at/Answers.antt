@@ -1,5 +1,5 @@
 -- The words of a listed row are those of its entry.
-use mathlib.Core.Option.{some}
+use Rattle.std.specs.Prelude.{Some}
 use mathlib.Core.Path.{ap, sym, ◌∙◌}
 use Rattle.table.proofs.Told.{row_fits, read_get}
 use Rattle.epoch.proofs.Aging.{told_aged}
@@ -9,4 +9,4 @@ pub entry_at-e-requires : goal.entry_at-e-requires
 entry_at-e-requires c = row_fits c.requires.0 c.recency_row-row.ensures
 
 pub returns : goal.returns
-returns c = told_aged _ _ _ (read_get c.requires.0 c.recency_row-row.ensures ∙ ap some (sym c.entry_at-e.ensures))
+returns c = told_aged _ _ _ (read_get c.requires.0 c.recency_row-row.ensures ∙ ap Some (sym c.entry_at-e.ensures))

@@ -9,7 +9,7 @@ use Rattle.epoch.proofs.decrease.decrease.Goals as goal
 pub returns-then-upper-rate : goal.returns-then-upper-rate
 returns-then-upper-rate c =
     let d = cache_in c.args.table.now in
-    record { did = decrease_scaled c.args.rule c.args.rate d c.in-Threshold.is c.if-upper-rate.true c.scale_down-change.ensures.holds; change = threshold_named c.args.rule c.args.rate (start d) c.in-Threshold.is c.if-upper-rate.true c.scale_down-change.ensures.change }
+    record { did = decrease_scaled c.args.rule c.args.rate d c.in-Threshold.is c.if-upper-rate.true c.scale_down.ensures.holds; change = threshold_named c.args.rule c.args.rate (start d) c.in-Threshold.is c.if-upper-rate.true c.scale_down.ensures.change }
 
 pub returns-then-upper-rate-2 : goal.returns-then-upper-rate-2
 returns-then-upper-rate-2 c =

@@ -8,4 +8,4 @@ use Rattle.epoch.proofs.decrease.increased_maximum.Goals as goal
 pub returns : goal.returns
 returns c =
     let d = cache_in c.args.table.now in
-    (increased_is d c.settings-s.result c.maximum-before.result c.held_bytes.result c.increased-maximum.result c.exceeded.result c.args.rate c.settings-s.ensures c.maximum-before.ensures c.held_bytes.ensures c.exceeded.ensures c.increased-maximum.ensures, c.increase_bound-bound.ensures ∙ bound_is d c.settings-s.result c.maximum-before.result c.settings-s.ensures c.maximum-before.ensures)
+    (increased_is d c.settings-s.result c.maximum-before.result c.held_bytes.result c.increased.result c.exceeded.result c.args.rate c.settings-s.ensures c.maximum-before.ensures c.held_bytes.ensures c.exceeded.ensures c.increased.ensures, c.increase_bound.ensures ∙ bound_is d c.settings-s.result c.maximum-before.result c.settings-s.ensures c.maximum-before.ensures)

@@ -2,10 +2,8 @@
 use Rattle.layout.proofs.Emptied.{fresh_words}
 use Rattle.layout.proofs.fresh.write_fresh.Goals as goal
 
-pub returns : goal.returns
-returns c =
-    let s = c.args in record {
-      table_after = rw (c.fill_part-2.ensures, c.recency_at.ensures, c.fill_part.ensures, c.put_settings.ensures.table_after, c.copy_in.ensures, c.mode_word-mode.ensures)
-          (fresh_words s.rows s.mode s.threshold s.s s.table.now);
-      floats_fit = c.put_settings.ensures.floats_fit;
-    }
+pub returns-clause-table_after : goal.returns-clause-table_after
+returns-clause-table_after c =
+    let s = c.args in
+    rw (c.fill_part-2.ensures, c.recency_at.ensures, c.fill_part.ensures, c.put_settings.ensures.table_after, c.copy_in.ensures, c.mode_word.ensures)
+    (fresh_words s.rows s.mode s.threshold s.s s.table.now)

@@ -5,8 +5,8 @@ use Rattle.layout.specs.Leaves.{put_settings}
 use Rattle.layout.proofs.Leaves.{over_end}
 use Rattle.layout.proofs.header.put_settings.Goals as goal
 
-pub returns : goal.returns
+pub returns-clause-table_after : goal.returns-clause-table_after
 unfolding put_settings
-returns c =
+returns-clause-table_after c =
     let s = c.args in
-    record { table_after = over_end settings_at 21 (settings_words s.s) s.table.now _ c.store.ensures.words_after; floats_fit = c.store.ensures.floats_fit }
+    over_end settings_at 21 (settings_words s.s) s.table.now _ c.store.ensures.words_after

@@ -10,4 +10,4 @@ pub returns : goal.returns
 unfolding put_order order_words
 returns c =
     let s = c.args in
-    over_end (s.n * 3) 3 (order_words (s.order ∷ [])) s.orders.now _ (rw c.kind_word-kind.ensures at c.copy_in.ensures)
+    over_end (s.n * 3) 3 (order_words (s.order ∷ [])) s.orders.now _ (rw c.kind_word.ensures at c.copy_in.ensures)

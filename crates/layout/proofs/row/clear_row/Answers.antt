@@ -1,5 +1,5 @@
 -- Six zeros are written from the row's start on.
-use Rattle.rules.specs.declared.entry.Row.TheVariants.{Free}
+use Rattle.std.specs.Prelude.{None}
 use Rattle.layout.specs.Layout.{width, row_at}
 use Rattle.layout.specs.Leaves.{put_row}
 use Rattle.layout.specs.Picture.{row_words}
@@ -10,4 +10,4 @@ pub returns : goal.returns
 unfolding put_row
 returns c =
     let s = c.args in
-    over_end (row_at s.row) width (row_words Free) s.table.now _ c.copy_in.ensures
+    rw c.row_at.ensures (over_end (row_at s.row) width (row_words None) s.table.now _ (rw c.row_at.ensures at c.copy_in.ensures))

@@ -1,51 +1,27 @@
-use Prim.Native.Nat.{◌+◌, ◌-◌, ◌*◌, ◌^◌}
-use mathlib.Core.Path.{sym, ◌∙◌}
-use borrow.Author.Tests.{leb-true, leb-false}
-use Rattle.lines.proofs.Laws.{digit_range, started, ended, stopped, passed, went_on}
-use native.Mathlib.Omega.{arith}
+use Rattle.std.proofs.Common.{◌≡◌, ◌+◌, ◌-◌, ◌*◌, get_or, sym, ◌∙◌, arith}
+use Rattle.lines.proofs.Laws.{started, ended, stopped, passed, went_on}
 use Rattle.lines.proofs.number.number_at.Goals as goal
 
 pub loop-i-init : goal.loop-i-init
 loop-i-init c = started c.args.s.now c.args.at c.requires
 
-pub returns-then-not-is_digit : goal.returns-then-not-is_digit
-returns-then-not-is_digit c =
-    let digit = sym c.is_digit.ensures ∙ c.if-not-is_digit.true in
-    c.number_of.ensures ∙ stopped c.loop-i.invariant c.loop-i-test.true (rw c.wide-b.ensures at digit)
+pub returns-then-not-is_ascii_digit : goal.returns-then-not-is_ascii_digit
+returns-then-not-is_ascii_digit c = c.number_of.ensures ∙ stopped c.loop-i.invariant c.loop-i-test.true (sym c.is_ascii_digit.ensures.value ∙ c.if-not-is_ascii_digit.true)
 
-pub overflow_sub-digit : goal.overflow_sub-digit
-overflow_sub-digit c =
-    let digit = sym c.is_digit.ensures ∙ c.if-not-is_digit.false in
-    let range = digit_range c.wide-b.result digit in
-    omega arith
+pub returns-in_err-checked_mul : goal.returns-in_err-checked_mul
+returns-in_err-checked_mul c =
+    c.from_residual.ensures
+    ∙ passed c.loop-i.invariant c.loop-i-test.true (sym c.is_ascii_digit.ensures.value ∙ c.if-not-is_ascii_digit.false) (omega (arith, c.in_err-checked_mul.ensures))
 
-pub too_large-requires : goal.too_large-requires
-too_large-requires c =
-    let digit = sym c.is_digit.ensures ∙ c.if-not-is_digit.false in
-    let range = digit_range c.wide-b.result digit in
-    omega arith
-
-pub returns-then-too_large : goal.returns-then-too_large
-returns-then-too_large c =
-    let digit = sym c.is_digit.ensures ∙ c.if-not-is_digit.false in
-    let large = leb-true (2 ^ 64) (c.loop-i.value * 10 + (c.wide-b.result - 48)) (sym c.too_large.ensures ∙ c.if-too_large.true) in
-    passed c.loop-i.invariant c.loop-i-test.true (rw c.wide-b.ensures at digit) (rw c.wide-b.ensures at large)
-
-pub overflow_mul-value : goal.overflow_mul-value
-overflow_mul-value c =
-    let small = leb-false (2 ^ 64) (c.loop-i.value * 10 + (c.wide-b.result - 48)) (sym c.too_large.ensures ∙ c.if-too_large.false) in
-    omega arith
-
-pub overflow_add-value : goal.overflow_add-value
-overflow_add-value c =
-    let small = leb-false (2 ^ 64) (c.loop-i.value * 10 + (c.wide-b.result - 48)) (sym c.too_large.ensures ∙ c.if-too_large.false) in
-    omega arith
+pub returns-in_err-value : goal.returns-in_err-value
+returns-in_err-value c =
+    c.from_residual-in_err-value.ensures
+    ∙ passed c.loop-i.invariant c.loop-i-test.true (sym c.is_ascii_digit.ensures.value ∙ c.if-not-is_ascii_digit.false) (omega (arith, c.in_ok-checked_mul.ensures, c.in_err-value.ensures, c.from-digit.ensures))
 
 pub loop-i-preserved : goal.loop-i-preserved
 loop-i-preserved c =
-    let digit = sym c.is_digit.ensures ∙ c.if-not-is_digit.false in
-    let small = leb-false (2 ^ 64) (c.loop-i.value * 10 + (c.wide-b.result - 48)) (sym c.too_large.ensures ∙ c.if-too_large.false) in
-    rw c.wide-b.ensures (went_on c.loop-i.invariant c.loop-i-test.true (rw c.wide-b.ensures at digit) (rw c.wide-b.ensures at small))
+    let next : c.in_ok-value.value ≡ c.loop-i.value * 10 + (get_or c.args.s.now c.loop-i.i 0 - 48) = omega (arith, c.in_ok-checked_mul.ensures, c.in_ok-value.ensures, c.from-digit.ensures) in
+    rw next (went_on c.loop-i.invariant c.loop-i-test.true (sym c.is_ascii_digit.ensures.value ∙ c.if-not-is_ascii_digit.false) (omega (arith, c.in_ok-checked_mul.ensures, c.in_ok-value.ensures, c.from-digit.ensures)))
 
 pub returns : goal.returns
-returns c = c.number_of-2.ensures ∙ ended c.loop-i.invariant c.loop-i-test.false
+returns c = c.number_of-2.ensures ∙ ended c.loop-i.invariant (omega arith)

@@ -26,4 +26,4 @@ use_number-requires c = holds_good c.set_count.ensures
 pub returns : goal.returns
 unfolding effect changes_of
 returns c =
-    record { did = did_onward numbered (did_onward (with_count 0) c.write_all-given.ensures c.set_count.ensures) c.use_number.ensures; explains = record { reasons = flush_named (cache_in c.args.table.now) c.write_all-given.ensures.number c.one_run-runs.ensures; change = refl } }
+    record { did = did_onward numbered (did_onward (with_count 0) c.write_all-given.ensures c.set_count.ensures) c.use_number.ensures; explains = record { reasons = flush_named (cache_in c.args.table.now) c.write_all-given.ensures.number c.one_run.ensures; change = refl } }

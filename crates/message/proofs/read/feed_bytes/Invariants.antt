@@ -1,10 +1,8 @@
--- The first i bytes are read.
-use Prim.Native.Nat.{◌≤◌, ◌-◌}
-use Rattle.message.specs.Reads.{after, Reads}
+-- What the first bytes lead to.
+use Rattle.std.proofs.Common.{take}
+use Rattle.rules.specs.Messages.{Reading, feed_all}
+use Rattle.message.specs.Reads.{Reads}
 use Rattle.message.proofs.read.feed_bytes.Given as goal
 
-abbrev pub invariant-loop-i : goal.invariant-loop-i
-invariant-loop-i l = (l.i ≤ l.to) × Reads (after l.i l.bytes) l.reader l.addresses
-
-abbrev pub decreases-loop-i : goal.decreases-loop-i
-decreases-loop-i l = l.to - l.i
+abbrev pub invariant-loop-byte : goal.invariant-loop-byte
+invariant-loop-byte l = (x : Reading) → Reads x l.fn.r l.initial.addresses → Reads (feed_all (take l.byte-index l.bytes) x) l.reader l.addresses

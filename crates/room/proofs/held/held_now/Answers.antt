@@ -1,5 +1,5 @@
 -- What is known is what would be summed.
 use Rattle.room.proofs.held.held_now.Goals as goal
 
-pub returns-in-Known : goal.returns-in-Known
-returns-in-Known c = rw c.in-Known.is at c.requires.1
+pub returns-in-Some : goal.returns-in-Some
+returns-in-Some c = rw c.in-Some.is at c.requires.1

@@ -3,4 +3,4 @@ use mathlib.Core.Path.{refl}
 use Rattle.room.proofs.room.made_by.Goals as goal
 
 pub returns : goal.returns
-returns c = (refl, rw c.pressing-reason.ensures)
+returns c = (refl, rw c.pressing.ensures)

@@ -18,7 +18,7 @@ use Rattle.room.proofs.room.make_room.Goals as goal
 pub returns-then-not-s : goal.returns-then-not-s
 returns-then-not-s c =
     let off = sym (ap (λ (s : Settings). s.evictions) c.settings-s.ensures) ∙ not-true _ c.if-not-s.true in
-    record { did = room_off c.args.size c.args.row c.requires.0.good off; named = reasons_off c.args.size c.args.row (cache_in c.args.table.now) off c.no_runs-runs.ensures }
+    record { did = room_off c.args.size c.args.row c.requires.0.good off; named = reasons_off c.args.size c.args.row (cache_in c.args.table.now) off c.no_runs.ensures }
 
 pub mode-requires : goal.mode-requires
 mode-requires c = holds_good c.begin_room-found.ensures.holds

@@ -3,6 +3,7 @@ use Rattle.layout.specs.Picture.{cache_in}
 use Rattle.room.proofs.Kept.{gave, kept_good, left_write}
 use Rattle.room.proofs.Writing.{writing_start, within, writing_skip, writing_write, writing_met, writing_end, writing_in}
 use native.Mathlib.Omega.{arith}
+use Rattle.room.proofs.share.write_until.Goals.{then-dirty_at, else-dirty_at}
 use Rattle.room.proofs.share.write_until.Goals as goal
 
 pub loop-pos-init : goal.loop-pos-init
@@ -34,34 +35,21 @@ overflow_add-given c =
     let l = c.loop-pos in
     omega (arith, l.invariant.0.kept.fits, l.invariant.2, c.well_formed.1.0, left_write (cache_in c.loop-pos.table) c.loop-pos.invariant.0.kept.did.holds.steady.sound c.loop-pos.pos (within c.loop-pos.invariant.0 (omega arith)) (cache_in c.loop-pos.table).recency (sym c.dirty_at.ensures ∙ c.if-dirty_at.true))
 
-pub overflow_add-pos : goal.overflow_add-pos
-overflow_add-pos c =
-    let k = c.loop-pos.invariant.0 in
-    omega (arith, k.listed_is, k.kept.did.holds.listed, k.kept.did.holds.steady.rows)
-
-pub loop-pos-smaller-then-dirty_at : goal.loop-pos-smaller-then-dirty_at
-loop-pos-smaller-then-dirty_at c = omega arith
-
-pub loop-pos-preserved-then-dirty_at : goal.loop-pos-preserved-then-dirty_at
-loop-pos-preserved-then-dirty_at c =
-    let l = c.loop-pos in (
-      rw c.less-missing.ensures (writing_in (writing_write l.invariant.0 (omega arith) c.if-missing-eq0.false (sym c.dirty_at.ensures ∙ c.if-dirty_at.true) (gave c.write_at.ensures))),
-      omega (arith, c.write_at.auto.table, l.invariant.1),
-      omega (arith, c.write_at.auto.orders, l.invariant.2),
-    )
-
-pub overflow_add-pos-else-dirty_at : goal.overflow_add-pos-else-dirty_at
-overflow_add-pos-else-dirty_at c =
-    let k = c.loop-pos.invariant.0 in
-    omega (arith, k.listed_is, k.kept.did.holds.listed, k.kept.did.holds.steady.rows)
-
-pub loop-pos-smaller : goal.loop-pos-smaller
-loop-pos-smaller c = omega arith
-
 pub loop-pos-preserved : goal.loop-pos-preserved
 loop-pos-preserved c =
-    let l = c.loop-pos in
-    (writing_skip l.invariant.0 (omega arith) (sym c.dirty_at.ensures ∙ c.if-dirty_at.false), l.invariant.1, l.invariant.2)
+    let k = c.loop-pos.invariant in
+    elim c.if-dirty_at.branch [
+      | then-dirty_at w ↦ (
+        rw (w.table-is, w.orders-is, w.missing-is, w.given-is, w.saturating_sub-missing.ensures) (writing_in (writing_write k.0 (omega arith) c.if-missing-eq0.false (sym c.dirty_at.ensures ∙ w.if-dirty_at.true) (gave w.write_at.ensures))),
+        omega (arith, c.if-dirty_at.auto.table, k.1),
+        omega (arith, c.if-dirty_at.auto.orders, k.2),
+      )
+      | else-dirty_at w ↦ (
+        rw (w.table-is, w.orders-is, w.missing-is, w.given-is) (writing_skip k.0 (omega arith) (sym c.dirty_at.ensures ∙ w.if-dirty_at.false)),
+        omega (arith, c.if-dirty_at.auto.table, k.1),
+        omega (arith, c.if-dirty_at.auto.orders, k.2),
+      )
+    ]
 
 pub shape_of-table : goal.shape_of-table
 shape_of-table c = omega (arith, c.loop-pos.invariant.1)

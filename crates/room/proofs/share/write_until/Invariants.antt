@@ -1,6 +1,5 @@
 -- What the rule does from the place reached is what it does from the start, and the missing bytes carried along are those of the table's
 -- cache.
-use Prim.Native.Nat.{◌-◌}
 use mathlib.Core.Path.{◌≡◌}
 use lib.ListN.{length}
 use Rattle.layout.specs.Picture.{cache_in, rest_in}
@@ -11,6 +10,3 @@ abbrev pub invariant-loop-pos : goal.invariant-loop-pos
 invariant-loop-pos l =
     Writing l.size (cache_in l.initial.table) l.rows l.before (rest_in l.initial.table) l.initial.orders l.listed l.table l.orders l.missing l.pos l.given (cache_in l.table)
     × (length l.table ≡ length l.initial.table) × (length l.orders ≡ length l.initial.orders)
-
-abbrev pub decreases-loop-pos : goal.decreases-loop-pos
-decreases-loop-pos l = l.listed - l.pos

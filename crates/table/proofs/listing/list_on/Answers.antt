@@ -5,5 +5,5 @@ use Rattle.table.proofs.listing.list_on.Goals as goal
 pub returns-then-on : goal.returns-then-on
 returns-then-on c = rw (c.if-on.true, c.recency_at.ensures) refl
 
-pub returns : goal.returns
-returns c = rw c.if-on.false refl
+pub returns-else-on : goal.returns-else-on
+returns-else-on c = rw c.if-on.false refl

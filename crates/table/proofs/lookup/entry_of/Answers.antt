@@ -1,5 +1,5 @@
 -- The words of an address's row are those of its entry.
-use mathlib.Core.Option.{some}
+use Rattle.std.specs.Prelude.{Some}
 use mathlib.Core.Path.{ap, sym, ◌∙◌}
 use Rattle.table.proofs.Told.{row_fits, read_get}
 use Rattle.table.proofs.lookup.entry_of.Goals as goal
@@ -10,4 +10,4 @@ entry_at-requires c =
 
 pub returns : goal.returns
 returns c =
-    read_get c.requires.0 c.requires.1 ∙ ap some (sym c.entry_at.ensures)
+    read_get c.requires.0 c.requires.1 ∙ ap Some (sym c.entry_at.ensures)

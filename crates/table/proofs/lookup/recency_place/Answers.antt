@@ -1,19 +1,17 @@
-use native.Mathlib.Omega.{arith}
-use borrow.Author.Count.{below_more}
-use borrow.Author.Rules.{rules}
-use Rattle.table.proofs.Told.{place_hit, place_missed}
+-- Some word of the recency run is the row's number, and the first stands at the place.
+use Prim.Native.Nat.{◌+◌, ◌-◌}
+use mathlib.Core.Path.{◌≡◌}
+use Rattle.std.proofs.Common.{arith, rules, tests}
+use Rattle.std.proofs.lemmas.Iterator.{IsFirst-from_position, YieldsList-from_slice}
+use Rattle.table.proofs.Told.{place_first}
 use Rattle.table.proofs.lookup.recency_place.Goals as goal
-
-pub loop-i-init : goal.loop-i-init
-loop-i-init c = (c.recency_at-at.ensures, search rules, λ k h. absurd (omega arith))
-
-pub returns-then-table-at : goal.returns-then-table-at
-returns-then-table-at c =
-    place_hit c.requires.0 c.requires.1 c.loop-i.i (omega arith) (rw (← c.recency_at-at.ensures) c.if-table-at.true)
-
-pub loop-i-preserved : goal.loop-i-preserved
-loop-i-preserved c = (c.loop-i.invariant.0, search rules, below_more _ _ c.loop-i.invariant.2 c.if-table-at.false)
 
 pub returns : goal.returns
 returns c =
-    absurd (place_missed c.requires.0 c.requires.1 c.requires.2 (rw (← c.recency_at-at.ensures) (λ k l. c.loop-i.invariant.2 k (omega arith))))
+    let p = c.requires in
+    let at = c.recency_at-at.result in
+    let row = c.args.row in
+    let e : at + c.args.rows - at ≡ c.args.rows = omega arith in
+    rw c.unwrap_or.ensures
+    (place_first p.0 p.1 c.recency_at-at.ensures e p.2 c.position.result
+    (IsFirst-from_position _ _ _ (λ w. w ≡ row) (λ w. w ≡ row → ⊥) c.position.ensures.ran (YieldsList-from_slice _ cc) (λ x q k. search (rules, tests)) (λ x q k. search (rules, tests))))

@@ -1,5 +1,5 @@
 -- The row at the place holds the entry, and the search finds its place among the addresses.
-use mathlib.Core.Option.{some}
+use Rattle.std.specs.Prelude.{Some}
 use mathlib.Core.Path.{sym, ap, ◌∙◌}
 use Rattle.rules.specs.declared.entry.Entry.{Entry}
 use Rattle.layout.specs.Picture.{row_number, cache_in}
@@ -27,4 +27,4 @@ returns c =
     let g = c.requires.0 in
     let r = c.recency_row-row.ensures in
     let q = ap (λ (x : Entry). x.address) c.entry_at-e.ensures ∙ read_address g r in
-    record { holds = rw q at c.drop_entry.ensures; entry = read_get g r ∙ ap some (sym c.entry_at-e.ensures) }
+    record { holds = rw q at c.drop_entry.ensures; entry = read_get g r ∙ ap Some (sym c.entry_at-e.ensures) }

@@ -15,5 +15,5 @@ shape_of-table c = simp length-set (omega (arith, c.run_cut.auto.table, c.put_en
 pub returns : goal.returns
 returns c =
     let p = c.requires in
-    rw (c.run_cut.ensures, c.recency_at-recency.ensures, c.put_entry.ensures, c.cleaned-clean.ensures, p.0.size, p.3.number)
+    rw (c.run_cut.ensures, c.recency_at-recency.ensures, c.put_entry.ensures, c.cleaned.ensures, p.0.size, p.3.number)
     (turn_holds p.0.good (omega (arith, p.1, p.2)) c.args.e c.args.n p.4 p.2)

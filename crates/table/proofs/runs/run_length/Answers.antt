@@ -1,18 +1,21 @@
-use Prim.Native.Nat.{◌-◌, ◌+◌, ◌/◌}
-use native.Mathlib.Omega.{arith}
-use lib.ListN.{drop}
-use Rattle.table.proofs.Lengths.{at_ones, at_number, run_most}
+-- A word is all ones exactly from the length on.
+use mathlib.Core.Bool.{not}
+use mathlib.Core.Path.{◌≡◌}
+use Prim.Native.Nat.{◌+◌, ◌-◌, ◌≤◌}
+use lib.Dec.{eqb}
+use lib.ListN.{drop, length-take}
+use Rattle.std.proofs.Common.{arith, rules}
+use Rattle.std.proofs.lemmas.List.Sorted.{IsPartitionPoint-from_clause}
+use Rattle.layout.specs.Layout.{ones}
+use Rattle.table.proofs.Lengths.{run_parted, run_point}
 use Rattle.table.proofs.runs.run_length.Goals as goal
 
-pub loop-low-init : goal.loop-low-init
-loop-low-init c = omega (arith, run_most c.args.n (drop c.args.at c.args.table.now))
-
-pub loop-low-preserved-then-table-at : goal.loop-low-preserved-then-table-at
-loop-low-preserved-then-table-at c =
-    let l = c.loop-low in
-    omega (arith, at_ones c.requires (l.low + (l.high - l.low) / 2) (omega arith) c.if-table-at.true)
-
-pub loop-low-preserved : goal.loop-low-preserved
-loop-low-preserved c =
-    let l = c.loop-low in
-    omega (arith, at_number c.requires (l.low + (l.high - l.low) / 2) (omega arith) c.if-table-at.false)
+pub returns : goal.returns
+returns c =
+    let r = c.requires in
+    let n = c.args.n in
+    let at = c.args.at in
+    let e : at + n - at ≡ n = omega arith in
+    let b : c.partition_point.result ≤ n = omega (arith, c.partition_point.ensures.bound, length-take (at + n - at) (drop at c.args.table.now)) in
+    run_point r e _ b
+    (IsPartitionPoint-from_clause (λ w. not (eqb w ones)) _ _ c.partition_point.ensures.partitioned (run_parted r e) (λ a r q k. search rules))

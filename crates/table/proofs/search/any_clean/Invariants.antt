@@ -1,5 +1,4 @@
 -- Whether the list from i on has a clean entry is whether the list has.
-use Prim.Native.Nat.{◌≤◌, ◌-◌}
 use mathlib.Core.Path.{◌≡◌}
 use lib.ListN.{length, drop}
 use Rattle.rules.specs.Addresses.{some_address}
@@ -8,7 +7,4 @@ use Rattle.layout.specs.Picture.{cache_in}
 use Rattle.table.proofs.search.any_clean.Given as goal
 
 abbrev pub invariant-loop-i : goal.invariant-loop-i
-invariant-loop-i l = (l.i ≤ l.n) × (l.n ≡ length (cache_in l.table).recency) × (some_address (clean_at (cache_in l.table).rows) (drop l.i (cache_in l.table).recency) ≡ some_address (clean_at (cache_in l.table).rows) (cache_in l.table).recency)
-
-abbrev pub decreases-loop-i : goal.decreases-loop-i
-decreases-loop-i l = l.n - l.i
+invariant-loop-i l = (l.i-end ≡ length (cache_in l.table).recency) × (some_address (clean_at (cache_in l.table).rows) (drop l.i (cache_in l.table).recency) ≡ some_address (clean_at (cache_in l.table).rows) (cache_in l.table).recency)

@@ -1,5 +1,4 @@
 -- Whether a row from i on is held is whether any is.
-use Prim.Native.Nat.{◌≤◌, ◌-◌}
 use mathlib.Core.Path.{◌≡◌}
 use lib.ListN.{drop}
 use Rattle.rules.specs.Entries.{is_held}
@@ -8,7 +7,4 @@ use Rattle.layout.specs.Picture.{cache_in}
 use Rattle.table.proofs.search.any_held.Given as goal
 
 abbrev pub invariant-loop-i : goal.invariant-loop-i
-invariant-loop-i l = (l.i ≤ l.rows) × (some_entry (λ e. is_held e.hold) (drop l.i (cache_in l.table).rows) ≡ some_entry (λ e. is_held e.hold) (cache_in l.table).rows)
-
-abbrev pub decreases-loop-i : goal.decreases-loop-i
-decreases-loop-i l = l.rows - l.i
+invariant-loop-i l = some_entry (λ e. is_held e.hold) (drop l.i (cache_in l.table).rows) ≡ some_entry (λ e. is_held e.hold) (cache_in l.table).rows

@@ -1,5 +1,4 @@
 use native.Mathlib.Omega.{arith}
-use borrow.Author.Rules.{rules}
 use Rattle.layout.specs.Picture.{cache_in}
 use Rattle.table.proofs.Passes.{lowest_end}
 use Rattle.table.proofs.Turns.{free_stop, free_on}
@@ -9,7 +8,7 @@ pub returns-then-table-i-eq0 : goal.returns-then-table-i-eq0
 returns-then-table-i-eq0 c = omega (arith, free_stop c.requires c.loop-i.i (omega arith) c.if-table-i-eq0.true)
 
 pub loop-i-preserved : goal.loop-i-preserved
-loop-i-preserved c = (search rules, omega (arith, free_on c.requires c.loop-i.i (omega arith) c.if-table-i-eq0.false))
+loop-i-preserved c = omega (arith, free_on c.requires c.loop-i.i (omega arith) c.if-table-i-eq0.false)
 
 pub returns : goal.returns
 returns c =

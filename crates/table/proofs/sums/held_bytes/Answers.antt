@@ -1,6 +1,5 @@
 use native.Mathlib.Nat.{le_refl}
 use native.Mathlib.Omega.{arith}
-use borrow.Author.Rules.{rules}
 use Rattle.layout.specs.Picture.{cache_in}
 use Rattle.table.proofs.Passes.{total_end}
 use Rattle.table.proofs.Turns.{total_fits, held_turn}
@@ -16,7 +15,7 @@ pub loop-i-preserved : goal.loop-i-preserved
 loop-i-preserved c =
     let g = c.requires in
     let i = c.loop-i.i in
-    (search rules, omega (arith, held_turn g i (omega arith)))
+    omega (arith, held_turn g i (omega arith))
 
 pub returns : goal.returns
 returns c =

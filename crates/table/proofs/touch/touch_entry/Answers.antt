@@ -7,14 +7,14 @@ use Rattle.table.proofs.Changed.{shorter, touch_holds}
 use Rattle.table.proofs.Told.{row_fits, read_get}
 use Rattle.table.proofs.touch.touch_entry.Goals as goal
 
-pub entry_at-old-requires : goal.entry_at-old-requires
-entry_at-old-requires c =
+pub entry_at-requires : goal.entry_at-requires
+entry_at-requires c =
     row_fits c.requires.0 c.requires.1
 
 pub list_off-n-requires : goal.list_off-n-requires
 list_off-n-requires c =
     let p = c.requires in
-    (p.0, p.1, c.is_listed-was.ensures ∙ ap is_listed c.entry_at-old.ensures ∙ sym (p.0.good.steady.sound.listed _ ∙ ap (passes is_listed) (read_get p.0 p.1)))
+    (p.0, p.1, c.is_listed-was.ensures ∙ ap is_listed c.entry_at.ensures ∙ sym (p.0.good.steady.sound.listed _ ∙ ap (passes is_listed) (read_get p.0 p.1)))
 
 pub put_entry-requires : goal.put_entry-requires
 put_entry-requires c =
@@ -28,5 +28,5 @@ list_on-requires c =
 pub returns : goal.returns
 returns c =
     let p = c.requires in
-    rw (c.list_on.ensures, c.is_listed-on.ensures, c.put_entry.ensures, c.list_off-n.ensures.words, p.0.size, p.1.number)
+    rw (c.list_on.ensures, c.is_listed.ensures, c.put_entry.ensures, c.list_off-n.ensures.words, p.0.size, p.1.number)
     (touch_holds p.0.good c.args.e p.1.here p.2 _ c.list_off-n.ensures.listed)

@@ -4,8 +4,5 @@ use lib.ListN.{length-replicate}
 use Rattle.rules.specs.Limits.{most_rows}
 use Rattle.table_tests.proofs.take.take.Goals as goal
 
-pub take_noting-tested-requires : goal.take_noting-tested-requires
-take_noting-tested-requires c = (c.requires, length-replicate {A = ℕ} most_rows 0)
-
-pub returns : goal.returns
-returns c = c.take_noting-tested.ensures.tells
+pub take_noting-requires : goal.take_noting-requires
+take_noting-requires c = (c.requires, length-replicate {A = ℕ} most_rows 0)

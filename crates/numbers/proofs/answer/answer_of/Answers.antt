@@ -1,8 +1,0 @@
--- By the answer's case.
-use Rattle.numbers.proofs.answer.answer_of.Goals as goal
-
-pub returns-in-Accepted : goal.returns-in-Accepted
-returns-in-Accepted c = rw c.in-Accepted.is
-
-pub returns-in-Refused : goal.returns-in-Refused
-returns-in-Refused c = rw (c.in-Refused.is, c.refusal_number.ensures, c.refusal_field.ensures)
