@@ -38,16 +38,17 @@ use runs::{addresses_rise, mark_rows, named};
 
 const MOST_ROWS: usize = 4096;
 
-// The rows of a table, its recency run and its address run.
+// The rows of a table, its recency run and its address run, whose end is looked for only where the recency run fits.
 fn parts_allowed(rows: &Rows, recency: &[u64], order: &[u64]) -> bool
     ensures { Says result (PartsFit rows.now.table.now recency.now order.now rows.now.count) }
 {
     let recent = named(recency);
-    let ordered = named(order);
     let mut listed = [false; MOST_ROWS];
-    mark_rows(recent, rows.count, &mut listed)
-        && rows_allowed(rows, &listed, ordered.len(), recent.len())
-        && addresses_rise(rows, ordered)
+    if !mark_rows(recent, rows.count, &mut listed) {
+        return false;
+    }
+    let ordered = named(order);
+    rows_allowed(rows, &listed, ordered.len(), recent.len()) && addresses_rise(rows, ordered)
 }
 
 // Whether the words picture an allowed cache.
