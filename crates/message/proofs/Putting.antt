@@ -32,7 +32,7 @@ unfolding bytes_of
 bytes_length zero v = refl
 bytes_length (suc n) v = length-append (bytes_of n (v / 256)) (v % 256 ∷ []) ∙ ap (λ (k : ℕ). k + 1) (bytes_length n (v / 256)) ∙ add-one n
 
--- the bytes that the library gives, and the last two of them
+-- the bytes that the library gives; and the last two of a number's eight
 pub eight_bytes : (v : ℕ) → to_be_bytes w64 v ≡ bytes_of 8 v
 unfolding bytes_of
 eight_bytes v =
@@ -44,7 +44,7 @@ eight_bytes v =
     let g : v / 72057594037927936 ≡ v / 281474976710656 / 256 = omega arith in
     rw (g, f, e, d, c, b)
 
-pub two_bytes : (v : ℕ) → drop 6 (to_be_bytes w64 v) ≡ bytes_of 2 v
+pub two_bytes : (v : ℕ) → take 2 (drop 6 (bytes_of 8 v)) ≡ bytes_of 2 v
 unfolding bytes_of
 two_bytes v = refl
 

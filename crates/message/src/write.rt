@@ -17,13 +17,21 @@ fn put_tag(part: &mut [u8], tag: u8, size: u8)
     part[..3].copy_from_slice(&[tag, 0, size]);
 }
 
-// A field with a number of eight bytes, high byte first: the list's number, or an address.
+// A number in eight bytes, high byte first. A function of its own, so that the edit written_low_byte_first is refused at this promise.
+#[tactic(auto, using(crate::proofs::Putting::eight_bytes))]
+fn eight_bytes(v: u64) -> [u8; 8]
+    ensures { result ≡ bytes_of 8 v }
+{
+    v.to_be_bytes()
+}
+
+// A field with a number of eight bytes: the list's number, or an address.
 fn put_number(part: &mut [u8], tag: u8, v: u64)
     requires { 11 ≤ length part.old }
     ensures { part.new ≡ tag ∷ 0 ∷ 8 ∷ (bytes_of 8 v ++ drop 11 part.old) }
 {
     put_tag(part, tag, 8);
-    part[3..11].copy_from_slice(&v.to_be_bytes());
+    part[3..11].copy_from_slice(&eight_bytes(v));
 }
 
 // The count, in two bytes.
@@ -32,7 +40,7 @@ fn put_count(part: &mut [u8], count: u64)
     ensures { part.new ≡ 2 ∷ 0 ∷ 2 ∷ (bytes_of 2 count ++ drop 5 part.old) }
 {
     put_tag(part, 2, 2);
-    part[3..5].copy_from_slice(&count.to_be_bytes()[6..]);
+    part[3..5].copy_from_slice(&eight_bytes(count)[6..]);
 }
 
 // The fields before the addresses.

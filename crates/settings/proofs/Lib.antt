@@ -3,3 +3,4 @@ pub mod Passed
 pub mod Places
 pub mod Floats
 pub mod Defaults
+pub mod Clean

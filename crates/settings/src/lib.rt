@@ -84,6 +84,7 @@ pub struct Settings {
 }
 
 // The default minimum clean fraction of a mode.
+#[tactic(auto, using(crate::proofs::Clean::of_alone, crate::proofs::Clean::of_lead, crate::proofs::Clean::of_standby, crate::proofs::Clean::of_either))]
 fn default_clean(mode: Mode) -> f64
     ensures { result ≡ default_clean mode }
 {
