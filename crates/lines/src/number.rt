@@ -10,7 +10,7 @@ pub struct Number {
     pub next: usize,
 }
 
-// A function of its own, so that the edit colon_a_digit is refused at this promise.
+// Whether a byte is a decimal digit.
 fn is_digit(b: u8) -> bool
     ensures { result ≡ is_ascii_digit b }
 {

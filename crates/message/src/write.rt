@@ -17,7 +17,7 @@ fn put_tag(part: &mut [u8], tag: u8, size: u8)
     part[..3].copy_from_slice(&[tag, 0, size]);
 }
 
-// A number in eight bytes, high byte first. A function of its own, so that the edit written_low_byte_first is refused at this promise.
+// A number in eight bytes, high byte first.
 #[tactic(auto, using(crate::proofs::Putting::eight_bytes))]
 fn eight_bytes(v: u64) -> [u8; 8]
     ensures { result ≡ bytes_of 8 v }
